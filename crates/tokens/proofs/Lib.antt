@@ -1,0 +1,4 @@
+pub mod Classes
+pub mod Runs
+pub mod Table
+pub mod Words
