@@ -1,4 +1,7 @@
 pub mod Classes
+pub mod Resumed
 pub mod Runs
+pub mod Steps
 pub mod Table
+pub mod Taken
 pub mod Words

@@ -1,20 +1,18 @@
 -- How far a reading has come: the facts that the reader's private functions hand to each other.
 use mathlib.Core.Path.{_≡_}
-use mathlib.Core.List.{List, [], _∷_, _++_, map}
-use Prim.Native.Nat.{ℕ, _+_, _<_}
+use mathlib.Core.List.{List, [], _∷_, _++_}
+use Prim.Native.Nat.{ℕ, _+_, _≤_, _<_}
 use lib.ListN.{length, drop}
-use Rattle.std.specs.Of.Vec.{vec-items}
-use Rattle.std.specs.declared.alloc.Global.{Global}
+use Rattle.std.specs.shelf.Lists.{between}
 use Rattle.std.specs.declared.option.Option.{Option}
 use Rattle.std.specs.declared.option.Option.the-variants.{Some, None}
 use Rattle.std.specs.declared.result.Result.{Result}
 use Rattle.std.specs.declared.result.Result.the-variants.{Ok, Err}
-use Rattle.std.specs.declared.vec.Vec.{Vec}
 use Rattle.tokens.specs.Bytes.{class}
 use Rattle.tokens.specs.Machine.{class-in}
-use Rattle.tokens.specs.Pieces.{piece, run, cut, next-class}
+use Rattle.tokens.specs.Pieces.{piece, run, cut}
 use Rattle.tokens.specs.Reading.{Meaning, gap, token, fault, weight, Reading, refused, before, meaning, meet, walk}
-use Rattle.tokens.specs.Tokens.{Kind, Placed, kind-of, token-of}
+use Rattle.tokens.specs.Tokens.{Kind, Placed, kind-of}
 use Rattle.tokens.specs.declared.class.Class.the-variants.{Colon}
 use Rattle.tokens.specs.declared.fault.Fault.{Fault}
 use Rattle.tokens.specs.declared.fault.Fault.the-variants as faults
@@ -26,17 +24,12 @@ use Rattle.tokens.specs.declared.reader.Reader.{Reader}
 use Rattle.tokens.specs.declared.reader.Run.{Run}
 use Rattle.tokens.specs.declared.reader.State.{State}
 use Rattle.tokens.specs.declared.reader.State.the-variants.{Between, In, AfterColon}
-use Rattle.tokens.specs.declared.token.Token.{Token}
 use Rattle.tokens.specs.declared.token.TokenKind.{TokenKind}
 
 -- each byte is one of a run's
 abbrev pub AllOf : Run → List ℕ → Type 0
 AllOf r [] = Unit {0}
 AllOf r (b ∷ bs) = (class b ≡ class-in r) × AllOf r bs
-
--- the tokens that a vector holds
-abbrev pub placed : Vec Token Global → List Placed
-placed v = map token-of (vec-items v)
 
 -- the tokens read so far, before what the rest reads as
 abbrev pub resume : List Placed → Reading → Reading
@@ -56,6 +49,11 @@ found-meaning found.NoToken = fault faults.NoToken
 abbrev pub ended-meaning : Option Run → List ℕ → Meaning
 ended-meaning None bs = gap
 ended-meaning (Some r) bs = meaning (piece (run r) bs)
+
+-- the bytes of a run that has ended, from start up to at
+abbrev pub Pending : Option Run → List ℕ → ℕ → ℕ → Type 0
+Pending None source start at = Unit {0}
+Pending (Some r) source start at = (start ≤ at) × (at ≤ length source) × AllOf r (between start at source)
 
 -- from the tokens ts, the answer to something of this meaning at a place, and the tokens us after it
 abbrev pub Takes : List Placed → Meaning → ℕ → Result (Unit {0}) ReadError → List Placed → Type 0

@@ -1,6 +1,9 @@
 -- What a token says, apart from where its letters lie in memory.
-use mathlib.Core.List.{List}
+use mathlib.Core.List.{List, map}
 use Prim.Native.Nat.{ℕ}
+use Rattle.std.specs.Of.Vec.{vec-items}
+use Rattle.std.specs.declared.alloc.Global.{Global}
+use Rattle.std.specs.declared.vec.Vec.{Vec}
 use Rattle.tokens.specs.declared.sign.Sign.{Sign}
 use Rattle.tokens.specs.declared.token.Token.{Token}
 use Rattle.tokens.specs.declared.token.TokenKind.{TokenKind}
@@ -26,3 +29,7 @@ kind-of (code.Constant n) = constant n
 
 abbrev pub token-of : Token → Placed
 token-of t = record { place = t .place; kind = kind-of (t .kind) }
+
+-- the tokens that a vector holds
+abbrev pub placed : Vec Token Global → List Placed
+placed v = map token-of (vec-items v)

@@ -2,7 +2,10 @@
 pub mod class;
 pub mod fault;
 mod kind;
+mod read;
 pub mod reader;
 pub mod sign;
 pub mod token;
 pub mod word;
+
+pub use read::read as read_tokens;
