@@ -1,4 +1,5 @@
 pub mod Classes
+pub mod Ends
 pub mod Resumed
 pub mod Runs
 pub mod Steps
