@@ -10,7 +10,7 @@ use Rattle.std.proofs.shelf.Lists.{at-drop-more, at-drop-all}
 use Rattle.std.proofs.shelf.Text.{utf8-from-ascii}
 use Rattle.tokens.specs.Bytes.{class}
 use Rattle.tokens.specs.Machine.{class-in}
-use Rattle.tokens.specs.Progress.{AllOf}
+use Rattle.tokens.specs.Pieces.{AllOf}
 use Rattle.tokens.specs.Reading.{value, value-from}
 use Rattle.tokens.specs.declared.reader.Run.{Run}
 use Rattle.tokens.specs.declared.reader.Run.the-variants.{Name, Number}

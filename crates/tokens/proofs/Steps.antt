@@ -12,8 +12,8 @@ use Rattle.std.specs.declared.option.Option.the-variants.{Some, None}
 use Rattle.std.proofs.shelf.Lists.{drop-drop, take-at}
 use Rattle.tokens.specs.Bytes.{class}
 use Rattle.tokens.specs.Machine.{class-in, grows, completes, begun, state-after, start-after, step-at}
-use Rattle.tokens.specs.Pieces.{Piece, piece, run, sign, colon, join, attach, cut, next-class}
-use Rattle.tokens.specs.Progress.{AllOf, Open, Pending, untold, found-meaning, ended-meaning}
+use Rattle.tokens.specs.Pieces.{AllOf, Piece, piece, run, sign, colon, join, attach, cut, next-class}
+use Rattle.tokens.specs.Progress.{Open, Pending, untold, found-meaning, ended-meaning}
 use Rattle.tokens.specs.Reading.{meaning, weight, meet, walk, refused}
 use Rattle.tokens.specs.declared.class.Class.{Class}
 use Rattle.tokens.specs.declared.class.Class.the-variants.{Blank, Capital, Small, Digit, Sign, Colon, Other}
@@ -33,7 +33,7 @@ drop-next source at b bs e = sym (drop-drop 1 at source) ∙ ap (drop 1) e
 drop-end : (source : List ℕ) (at : ℕ) → drop at source ≡ [] → drop (at + 1) source ≡ []
 drop-end source at e = sym (drop-drop 1 at source) ∙ ap (drop 1) e
 
-cut-first : (b : ℕ) (bs : List ℕ) (c : Class) → class b ≡ c → cut (b ∷ bs) ≡ attach c (next-class bs) b (cut bs)
+pub cut-first : (b : ℕ) (bs : List ℕ) (c : Class) → class b ≡ c → cut (b ∷ bs) ≡ attach c (next-class bs) b (cut bs)
 cut-first b bs c e = ap (λ x. attach x (next-class bs) b (cut bs)) e
 
 -- the reading from a place, and the step of the reader that leads on from there
@@ -81,12 +81,12 @@ begun-at source n at [] here = ends source n at here
 begun-at source n at (b ∷ bs) here = begins source n at b bs here (class b) refl
 
 -- a run that ends
-grows-own : (r : Run) → grows r (class-in r) ≡ true
+pub grows-own : (r : Run) → grows r (class-in r) ≡ true
 grows-own Name = refl
 grows-own Word = refl
 grows-own Number = refl
 
-attach-run : (r : Run) (next : Class) (b : ℕ) (ps : List Piece) → attach (class-in r) next b ps ≡ join (grows r next) (run r) (run r) b ps
+pub attach-run : (r : Run) (next : Class) (b : ℕ) (ps : List Piece) → attach (class-in r) next b ps ≡ join (grows r next) (run r) (run r) b ps
 attach-run Name next b ps = refl
 attach-run Word next b ps = refl
 attach-run Number next b ps = refl
@@ -99,7 +99,7 @@ cut-run r (b ∷ c ∷ bs) rest all some stop =
     let more = cut-run r (c ∷ bs) rest (all .1) (omega arith) stop in
     cut-first b (c ∷ bs ++ rest) (class-in r) (all .0) ∙ attach-run r (class c) b (cut (c ∷ bs ++ rest)) ∙ ap (λ g. join g (run r) (run r) b (cut (c ∷ bs ++ rest))) (ap (grows r) (all .1 .0) ∙ grows-own r) ∙ ap (join true (run r) (run r) b) more
 
-grows-class : (r : Run) (c : Class) → grows r c ≡ true → c ≡ class-in r
+pub grows-class : (r : Run) (c : Class) → grows r c ≡ true → c ≡ class-in r
 grows-class r c e = grind arith
 
 -- inside a run
@@ -139,7 +139,7 @@ module _ (source : List ℕ) (n start at : ℕ) (r : Run) (bs : List ℕ) (from 
     }
 
 -- after a colon
-completes-equals : (c : Class) → completes c ≡ true → c ≡ Sign Equals
+pub completes-equals : (c : Class) → completes c ≡ true → c ≡ Sign Equals
 completes-equals c e = grind arith
 
 module _ (source : List ℕ) (n start at b : ℕ) (from : drop start source ≡ b ∷ drop at source) (is : class b ≡ Colon) (one : start + 1 ≡ at) where

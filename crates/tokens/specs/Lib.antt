@@ -1,6 +1,7 @@
 pub mod Answer
 pub mod Bytes
 pub mod Faults
+pub mod Law
 pub mod Machine
 pub mod Pieces
 pub mod Progress

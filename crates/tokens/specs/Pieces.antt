@@ -1,9 +1,10 @@
 -- A source cut into pieces: blanks, tokens, and bytes that are part of no token.
+use mathlib.Core.Path.{_≡_}
 use mathlib.Core.Bool.{Bool, true, false, cond}
 use mathlib.Core.List.{List, [], _∷_}
 use Prim.Native.Nat.{ℕ}
 use Rattle.tokens.specs.Bytes.{class}
-use Rattle.tokens.specs.Machine.{grows, completes}
+use Rattle.tokens.specs.Machine.{class-in, grows, completes}
 use Rattle.tokens.specs.declared.class.Class.{Class}
 use Rattle.tokens.specs.declared.class.Class.the-variants.{Blank, Capital, Small, Digit, Sign, Colon, Other}
 use Rattle.tokens.specs.declared.reader.Run.{Run}
@@ -25,6 +26,11 @@ pub data Piece : Type 0 where
 
 abbrev pub bytes-of : Piece → List ℕ
 bytes-of (piece s bs) = bs
+
+-- each byte is one of a run's
+abbrev pub AllOf : Run → List ℕ → Type 0
+AllOf r [] = Unit {0}
+AllOf r (b ∷ bs) = (class b ≡ class-in r) × AllOf r bs
 
 -- the class of the next byte; the end of the source parts tokens as a blank does
 abbrev pub next-class : List ℕ → Class

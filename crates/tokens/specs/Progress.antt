@@ -9,8 +9,7 @@ use Rattle.std.specs.declared.option.Option.the-variants.{Some, None}
 use Rattle.std.specs.declared.result.Result.{Result}
 use Rattle.std.specs.declared.result.Result.the-variants.{Ok, Err}
 use Rattle.tokens.specs.Bytes.{class}
-use Rattle.tokens.specs.Machine.{class-in}
-use Rattle.tokens.specs.Pieces.{piece, run, cut}
+use Rattle.tokens.specs.Pieces.{AllOf, piece, run, cut}
 use Rattle.tokens.specs.Reading.{Meaning, gap, token, fault, weight, Reading, refused, before, meaning, meet, walk}
 use Rattle.tokens.specs.Tokens.{Kind, Placed, kind-of}
 use Rattle.tokens.specs.declared.class.Class.the-variants.{Colon}
@@ -25,11 +24,6 @@ use Rattle.tokens.specs.declared.reader.Run.{Run}
 use Rattle.tokens.specs.declared.reader.State.{State}
 use Rattle.tokens.specs.declared.reader.State.the-variants.{Between, In, AfterColon}
 use Rattle.tokens.specs.declared.token.TokenKind.{TokenKind}
-
--- each byte is one of a run's
-abbrev pub AllOf : Run → List ℕ → Type 0
-AllOf r [] = Unit {0}
-AllOf r (b ∷ bs) = (class b ≡ class-in r) × AllOf r bs
 
 -- the tokens read so far, before what the rest reads as
 abbrev pub resume : List Placed → Reading → Reading

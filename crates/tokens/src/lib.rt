@@ -8,4 +8,4 @@ pub mod sign;
 pub mod token;
 pub mod word;
 
-pub use read::read as read_tokens;
+pub use read::read_tokens;

@@ -2,6 +2,7 @@
 ghost use mathlib.Core.Path.{_≡_};
 ghost use Prim.Native.Nat.{_≤_};
 ghost use lib.ListN.{drop, length};
+ghost use Rattle.tokens.specs.Law.{Lawful};
 ghost use Rattle.tokens.specs.Pieces.{next-class};
 ghost use Rattle.std.specs.shelf.Lists.{between};
 ghost use Rattle.tokens.specs.Answer.{Answers};
@@ -28,7 +29,15 @@ const MOST_BYTES: usize = 8192;
 const MOST_TOKENS: usize = 512;
 
 /// The tokens of a source, or why it is refused.
-pub fn read<'a>(heap: Global, source: &'a [u8]) -> Result<Vec<Token<'a>>, ReadError>
+pub fn read_tokens<'a>(heap: Global, source: &'a [u8]) -> Result<Vec<Token<'a>>, ReadError>
+    ensures defined { λ r. ⌜ Answers (reading (now (source .entry))) r ⌝ }
+    ensures lawful { λ r. ⌜ Lawful (now (source .entry)) r ⌝ }
+{
+    read_bytes(heap, source)
+}
+
+/// The same, without the law: one step for each byte, and one for the end.
+fn read_bytes<'a>(heap: Global, source: &'a [u8]) -> Result<Vec<Token<'a>>, ReadError>
     ensures { λ r. ⌜ Answers (reading (now (source .entry))) r ⌝ }
 {
     if source.len() > MOST_BYTES {

@@ -7,7 +7,7 @@ use Rattle.tokens.specs.Progress.{Stands}
 use Rattle.tokens.specs.Reading.{most-bytes}
 use Rattle.tokens.specs.Tokens.{placed}
 use Rattle.tokens.proofs.Ends.{next-byte, next-end, short, finished, stopped}
-use Rattle.tokens.proofs.read.read.Needs as need
+use Rattle.tokens.proofs.read.read_bytes.Needs as need
 
 pub take-requires : need.take-requires
 take-requires c κs = record {
