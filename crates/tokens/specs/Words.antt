@@ -1,4 +1,5 @@
 -- How words and signs are written, and which word a run of letters is.
+use mathlib.Core.Path.{_≡_}
 use mathlib.Core.Bool.{cond}
 use mathlib.Core.List.{List, [], _∷_}
 use Prim.Native.Nat.{ℕ}
@@ -39,6 +40,11 @@ first-like run (w ∷ ws) = cond (sameBytes run (letters w)) (Some w) (first-lik
 
 abbrev pub word-of : List ℕ → Option Word
 word-of run = first-like run words
+
+-- the word that a run is written like, or none where no word is
+abbrev pub Spells : List ℕ → Option Word → Type 0
+Spells run None = (w : Word) → run ≡ letters w → ⊥
+Spells run (Some w) = run ≡ letters w
 
 abbrev pub spelling : Sign → List ℕ
 spelling Semicolon = codes ";"

@@ -1,7 +1,7 @@
 // The fifteen words of the language.
 ghost use mathlib.Core.Path.{_≡_};
 ghost use Rattle.std.specs.shelf.Text.{sameBytes};
-ghost use Rattle.tokens.specs.Words.{letters, word-of};
+ghost use Rattle.tokens.specs.Words.{Spells, letters, word-of};
 
 /// A word of the language.
 #[derive(Clone, Copy, PartialEq, Eq, Debug)]
@@ -44,6 +44,13 @@ static WORDS: [Word; 15] = [
 impl Word {
     /// The word that a run of small letters forms, if it forms one.
     pub fn of_run(run: &[u8]) -> Option<Word>
+        ensures defined { λ r. ⌜ r ≡ word-of (now (run .entry)) ⌝ }
+        ensures spelt { λ r. ⌜ Spells (now (run .entry)) r ⌝ }
+    {
+        Word::first_like(run)
+    }
+
+    fn first_like(run: &[u8]) -> Option<Word>
         ensures { λ r. ⌜ r ≡ word-of (now (run .entry)) ⌝ }
     {
         for word in WORDS.iter() {

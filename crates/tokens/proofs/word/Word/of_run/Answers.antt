@@ -1,10 +1,9 @@
-use mathlib.Core.Path.{_∙_}
-use native.Mathlib.Omega.{arith}
-use Rattle.tokens.specs.Words.{words}
-use Rattle.tokens.specs.declared.word.Word.the-variants.{Begin}
-use Rattle.tokens.proofs.Words.{passed}
+use mathlib.Core.Path.{sym}
+use Rattle.tokens.proofs.Words.{spells}
 use Rattle.tokens.proofs.word.Word.of_run.Needs as need
 
-pub loop-word-again : need.loop-word-again
-loop-word-again c =
-    passed (c .args .run .now) words (c .loop-word .word-index) Begin (omega arith) (c .if-is-written .ensures tt) ∙ c .loop-word .inv
+pub returns : need.returns
+returns c = record {
+  defined = c .first-like .ensures;
+  spelt = spells (c .args .run .now) (c .first-like .result) (sym (c .first-like .ensures));
+}

@@ -1,7 +1,7 @@
 use mathlib.Core.Path.{_≡_}
 use lib.ListN.{drop}
 use Rattle.tokens.specs.Words.{words, first-like, word-of}
-use Rattle.tokens.proofs.word.Word.of_run.Given as given
+use Rattle.tokens.proofs.word.Word.first_like.Given as given
 
 -- no word before this one is written like the run
 abbrev pub Inv-loop-word : given.InvT-loop-word
