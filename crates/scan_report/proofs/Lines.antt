@@ -11,7 +11,7 @@ use Rattle.tokens.specs.declared.token.Token.{Token}
 module _ (tokens : List Token) (i : ℕ) (was all : List ℕ) (sofar : was ++ lines (map token-of (drop i tokens)) ≡ all) where
   pub lines-more : (d : Token) (now : List ℕ) → i < length tokens → now ≡ was ++ line (token-of (getD tokens i d)) → now ++ lines (map token-of (drop (i + 1) tokens)) ≡ all
   lines-more d now h e =
-    ap (λ l. l ++ lines (map token-of (drop (i + 1) tokens))) e ∙ append-assoc was _ _ ∙ sym (at-drop-more (λ l. was ++ lines (map token-of l)) tokens i d h) ∙ sofar
+      ap (λ l. l ++ lines (map token-of (drop (i + 1) tokens))) e ∙ append-assoc was _ _ ∙ sym (at-drop-more (λ l. was ++ lines (map token-of l)) tokens i d h) ∙ sofar
 
   pub lines-all : length tokens ≤ i → was ≡ all
   lines-all h = sym (append-nil was) ∙ sym (at-drop-all (λ l. was ++ lines (map token-of l)) tokens i h) ∙ sofar

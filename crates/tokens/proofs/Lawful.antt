@@ -67,18 +67,18 @@ module _ (count place : ℕ) (p : Piece) (ps : List Piece) where
 
   at-token : (k : Kind) (r : Reading) → count < most-tokens → RightFrom (count + 1) (place + length (bytes-of p)) ps r → RightAt (token k) (before (record { place = place; kind = k }) r)
   at-token k (read ts) room right =
-    (λ f q a. right .0 f q (passed (token k) (λ g w. omega arith) f q a), ap (λ l. record { place = place; kind = k } ∷ l) (right .1))
+      (λ f q a. right .0 f q (passed (token k) (λ g w. omega arith) f q a), ap (λ l. record { place = place; kind = k } ∷ l) (right .1))
   at-token k (refused f q) room right =
-    (inr (right .0), λ g r a. right .1 g r (passed (token k) (λ h w. omega arith) g r a))
+      (inr (right .0), λ g r a. right .1 g r (passed (token k) (λ h w. omega arith) g r a))
 
   -- nothing that stands later comes before what is wrong here
   here : (m : Meaning) (f : Fault) → 0 < length (bytes-of p) → Solid ps → ((g : Fault) → Wrong m count g → number-of f ≤ number-of g) → (g : Fault) (q : ℕ) → At m g q → First f place g q
   here m f some solid least g q a =
-    ⊎-elim (λ h. inr (sym (h .0), least g (h .1))) (λ h. inl (omega (arith, later _ _ ps g q solid h))) a
+      ⊎-elim (λ h. inr (sym (h .0), least g (h .1))) (λ h. inl (omega (arith, later _ _ ps g q solid h))) a
 
   at-many : (k : Kind) → count ≡ most-tokens → 0 < length (bytes-of p) → Solid ps → RightAt (token k) (refused TooManyTokens place)
   at-many k full some solid =
-    (inl (refl, (full, refl)), here (token k) TooManyTokens some solid (λ g w. omega (arith, ap number-of (w .1))))
+      (inl (refl, (full, refl)), here (token k) TooManyTokens some solid (λ g w. omega (arith, ap number-of (w .1))))
 
   at-fault : (f : Fault) → 0 < length (bytes-of p) → Solid ps → RightAt (fault f) (refused f place)
   at-fault f some solid = (inl (refl, refl), here (fault f) f some solid (λ g w. omega (arith, ap number-of w)))
@@ -136,12 +136,12 @@ least TooManyTokens = omega arith
 module _ (source : List ℕ) (fits : length source ≤ most-bytes) where
   among : (f : Fault) (q : ℕ) → Faulty source f q → Among 0 0 (cut source) f q
   among f q bad =
-    ⊎-elim (λ h. absurd (omega (arith, h .0))) (λ h. subst (λ ps. Among 0 0 ps f q) (only-cut source .alone (h .0) (h .1)) (h .2)) bad
+      ⊎-elim (λ h. absurd (omega (arith, h .0))) (λ h. subst (λ ps. Among 0 0 ps f q) (only-cut source .alone (h .0) (h .1)) (h .2)) bad
 
   right-source : (r : Reading) → RightFrom 0 0 (cut source) r → Right source r
   right-source (read ts) right = (λ f q bad. right .0 f q (among f q bad), (cut source, only-cut source, right .1))
   right-source (refused f p) right =
-    (inr (cut source, only-cut source .cuts, right .0), λ g q bad. right .1 g q (among g q bad))
+      (inr (cut source, only-cut source .cuts, right .0), λ g q bad. right .1 g q (among g q bad))
 
 too-long : (source : List ℕ) → most-bytes < length source → Right source (refused SourceTooLong 0)
 too-long source long =

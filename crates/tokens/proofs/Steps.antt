@@ -118,11 +118,11 @@ module _ (source : List ℕ) (n start at : ℕ) (r : Run) (bs : List ℕ) (from 
       no-blank Word e = grind arith
       no-blank Number e = grind arith
   longer (b ∷ rest) here g =
-    (bs ++ b ∷ [], from ∙ ap (λ l. bs ++ l) (here ∙ ap (λ l. b ∷ l) (sym (drop-next source at b rest here))) ∙ sym (append-assoc bs (b ∷ []) (drop (at + 1) source)), all-more r bs b all (grows-class r (class b) g), omega (arith, length-append bs (b ∷ [])), omega (arith, length-append bs (b ∷ [])))
+      (bs ++ b ∷ [], from ∙ ap (λ l. bs ++ l) (here ∙ ap (λ l. b ∷ l) (sym (drop-next source at b rest here))) ∙ sym (append-assoc bs (b ∷ []) (drop (at + 1) source)), all-more r bs b all (grows-class r (class b) g), omega (arith, length-append bs (b ∷ [])), omega (arith, length-append bs (b ∷ [])))
 
   ended-run : (c : Class) → c ≡ next-class (drop at source) → grows r c ≡ false → Begun source (n + weight (meaning (piece (run r) bs))) at c → walk n start (cut (drop start source)) ≡ meet (meaning (piece (run r) bs)) n start (meet (found-meaning (begun c .1)) (n + weight (meaning (piece (run r) bs))) at (walk (n + weight (meaning (piece (run r) bs)) + weight (found-meaning (begun c .1))) (untold (begun c .0) at (at + 1)) (cut (drop (untold (begun c .0) at (at + 1)) source))))
   ended-run c next g new =
-    ap (λ l. walk n start (cut l)) from ∙ ap (walk n start) (cut-run r bs (drop at source) all some (ap (grows r) (sym next) ∙ g)) ∙ ap (λ k. meet (meaning (piece (run r) bs)) n start (walk (n + weight (meaning (piece (run r) bs))) k (cut (drop at source)))) long ∙ ap (meet (meaning (piece (run r) bs)) n start) (new .same)
+      ap (λ l. walk n start (cut l)) from ∙ ap (walk n start) (cut-run r bs (drop at source) all some (ap (grows r) (sym next) ∙ g)) ∙ ap (λ k. meet (meaning (piece (run r) bs)) n start (walk (n + weight (meaning (piece (run r) bs))) k (cut (drop at source)))) long ∙ ap (meet (meaning (piece (run r) bs)) n start) (new .same)
 
   in-run : (c : Class) → c ≡ next-class (drop at source) → (g : Bool) → grows r c ≡ g → Moved source n start start at (cond {A = Step} g (record { ended = None; found = found.Nothing }) (record { ended = Some r; found = begun c .1 }) .ended) (cond {A = Step} g (record { ended = None; found = found.Nothing }) (record { ended = Some r; found = begun c .1 }) .found) (cond g (In r) (begun c .0)) (cond g start at)
   in-run c next true g = record {
@@ -131,12 +131,12 @@ module _ (source : List ℕ) (n start at : ℕ) (r : Run) (bs : List ℕ) (from 
     pending = tt;
   }
   in-run c next false g =
-    let new = subst (λ x. Begun source (n + weight (meaning (piece (run r) bs))) at x) (sym next) (begun-at source _ at (drop at source) refl) in
-    record {
-      same = subst (λ l. walk n start (cut (drop start source)) ≡ meet (meaning (piece (run r) l)) n start (meet (found-meaning (begun c .1)) (n + weight (meaning (piece (run r) l))) at (walk (n + weight (meaning (piece (run r) l)) + weight (found-meaning (begun c .1))) (untold (begun c .0) at (at + 1)) (cut (drop (untold (begun c .0) at (at + 1)) source))))) (sym run-bytes) (ended-run c next g new);
-      opened = new .opened;
-      pending = (omega arith, within, subst (AllOf r) (sym run-bytes) all);
-    }
+      let new = subst (λ x. Begun source (n + weight (meaning (piece (run r) bs))) at x) (sym next) (begun-at source _ at (drop at source) refl) in
+      record {
+        same = subst (λ l. walk n start (cut (drop start source)) ≡ meet (meaning (piece (run r) l)) n start (meet (found-meaning (begun c .1)) (n + weight (meaning (piece (run r) l))) at (walk (n + weight (meaning (piece (run r) l)) + weight (found-meaning (begun c .1))) (untold (begun c .0) at (at + 1)) (cut (drop (untold (begun c .0) at (at + 1)) source))))) (sym run-bytes) (ended-run c next g new);
+        opened = new .opened;
+        pending = (omega arith, within, subst (AllOf r) (sym run-bytes) all);
+      }
 
 -- after a colon
 pub completes-equals : (c : Class) → completes c ≡ true → c ≡ Sign Equals
@@ -149,17 +149,17 @@ module _ (source : List ℕ) (n start at b : ℕ) (from : drop start source ≡ 
   becomes : (rest : List ℕ) → drop at source ≡ rest → completes (next-class rest) ≡ true → (e : ℕ) × (cut (drop start source) ≡ piece (sign Becomes) (b ∷ e ∷ []) ∷ cut (drop (at + 1) source))
   becomes [] here g = absurd (grind arith)
   becomes (e ∷ rest) here g =
-    (e, colon-cut ∙ ap (λ l. join (completes (next-class l)) (sign Becomes) colon b (cut l)) here ∙ ap (λ t. join t (sign Becomes) colon b (cut (e ∷ rest))) g ∙ ap (join true (sign Becomes) colon b) (cut-first e rest (Sign Equals) (completes-equals (class e) g)) ∙ ap (λ l. piece (sign Becomes) (b ∷ e ∷ []) ∷ cut l) (sym (drop-next source at e rest here)))
+      (e, colon-cut ∙ ap (λ l. join (completes (next-class l)) (sign Becomes) colon b (cut l)) here ∙ ap (λ t. join t (sign Becomes) colon b (cut (e ∷ rest))) g ∙ ap (join true (sign Becomes) colon b) (cut-first e rest (Sign Equals) (completes-equals (class e) g)) ∙ ap (λ l. piece (sign Becomes) (b ∷ e ∷ []) ∷ cut l) (sym (drop-next source at e rest here)))
 
   after-colon : (c : Class) → c ≡ next-class (drop at source) → (g : Bool) → completes c ≡ g → Moved source n start start at None (cond g (found.Sign Becomes) found.NoToken) Between start
   after-colon c next true g =
-    let two : start + 2 ≡ at + 1 = omega arith in
-    let sign-read = becomes (drop at source) refl (ap completes (sym next) ∙ g) .1 in
-    record {
-      same = ap (walk n start) sign-read ∙ ap (λ k. meet (found-meaning (found.Sign Becomes)) n start (walk (n + 1) k (cut (drop (at + 1) source)))) two ∙ ap (λ k. meet (found-meaning (found.Sign Becomes)) k start (walk (k + 1) (at + 1) (cut (drop (at + 1) source)))) (sym (add-zero n));
-      opened = tt;
-      pending = tt;
-    }
+      let two : start + 2 ≡ at + 1 = omega arith in
+      let sign-read = becomes (drop at source) refl (ap completes (sym next) ∙ g) .1 in
+      record {
+        same = ap (walk n start) sign-read ∙ ap (λ k. meet (found-meaning (found.Sign Becomes)) n start (walk (n + 1) k (cut (drop (at + 1) source)))) two ∙ ap (λ k. meet (found-meaning (found.Sign Becomes)) k start (walk (k + 1) (at + 1) (cut (drop (at + 1) source)))) (sym (add-zero n));
+        opened = tt;
+        pending = tt;
+      }
   after-colon c next false g = record {
     same = ap (walk n start) (colon-cut ∙ ap (λ t. join t (sign Becomes) colon b (cut (drop at source))) (ap completes (sym next) ∙ g));
     opened = tt;

@@ -34,7 +34,7 @@ module _ {source : List ℕ} {ts : List Placed} {was is : Reader} {at : ℕ} {c 
 
   pub run-refused : (e : ReadError) (us vs : List Placed) → Takes ts (ended-meaning (step .ended) (between (was .start) at source)) (was .start) (Err e) us → Moves source at (Err e) vs is
   run-refused (Refused x) us vs takes =
-    sym (a .stood .told) ∙ ap (resume ts) (move .same ∙ takes _) ∙ resume-refused ts (x .fault) (x .place)
+      sym (a .stood .told) ∙ ap (resume ts) (move .same ∙ takes _) ∙ resume-refused ts (x .fault) (x .place)
   run-refused Memory us vs takes = tt
 
   -- the run that has ended, if one has, is told

@@ -15,7 +15,9 @@ use crate::word::Word;
 use std::str;
 
 const MOST_LETTERS: usize = 16;
+
 const MOST_DIGITS: usize = 10;
+
 const GREATEST: u64 = 2_147_483_647;
 
 /// The token that a whole run is, or the run's fault.

@@ -26,6 +26,7 @@ use crate::token::TokenKind;
 use std::alloc::Global;
 
 const MOST_BYTES: usize = 8192;
+
 const MOST_TOKENS: usize = 512;
 
 /// The tokens of a source, or why it is refused.
@@ -63,7 +64,13 @@ fn refused(fault: Fault, place: usize) -> ReadError
 }
 
 /// Takes one byte, known by its class.
-fn take<'a>(tokens: &mut Vec<Token<'a>>, reader: &mut Reader, source: &'a [u8], at: usize, class: Class) -> Result<(), ReadError>
+fn take<'a>(
+    tokens: &mut Vec<Token<'a>>,
+    reader: &mut Reader,
+    source: &'a [u8],
+    at: usize,
+    class: Class,
+) -> Result<(), ReadError>
     requires stands { ⌜ Stands (now source) (placed (now tokens)) (now reader) at ⌝ }
     requires within { ⌜ at ≤ length (now source) ⌝ }
     requires next { ⌜ class ≡ next-class (drop at (now source)) ⌝ }
@@ -76,7 +83,13 @@ fn take<'a>(tokens: &mut Vec<Token<'a>>, reader: &mut Reader, source: &'a [u8], 
 }
 
 /// Tells the run that has ended before the byte at `at`, if one has.
-fn end_run<'a>(tokens: &mut Vec<Token<'a>>, ended: Option<Run>, source: &'a [u8], start: usize, at: usize) -> Result<(), ReadError>
+fn end_run<'a>(
+    tokens: &mut Vec<Token<'a>>,
+    ended: Option<Run>,
+    source: &'a [u8],
+    start: usize,
+    at: usize,
+) -> Result<(), ReadError>
     requires { ⌜ Pending ended (now source) start at ⌝ }
     ensures { λ r. ⌜ Takes (placed (now (tokens .entry))) (ended-meaning ended (between start at (now (source .entry)))) start r (placed (now (tokens .exit))) ⌝ }
 {

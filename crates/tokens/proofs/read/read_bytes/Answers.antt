@@ -19,7 +19,7 @@ take-requires c κs = record {
 pub returns-in-Break-take : need.returns-in-Break-take
 returns-in-Break-take c =
     let p = err-from-errBy (c .from-residual .result) (c .from-residual .ensures .1) in
-    rw (p .1, p .2) (stopped (c .args .source .now) (c .loop-at .at) _ _ _ (c .if-source-gt-MOST-BYTES .left) (c .in-Break-take .ensures tt))
+    rw (p .1, p .2) (stopped (c .args .source .now) (c .loop-at .at) (c .in-Break-take .field-0 .0) (placed (c .take .last .tokens)) (c .take .last .reader) (c .if-source-gt-MOST-BYTES .left) (c .in-Break-take .ensures tt))
 
 pub take-requires-2 : need.take-requires-2
 take-requires-2 c κs =
@@ -34,7 +34,7 @@ take-requires-2 c κs =
 pub returns-in-Break-take-2 : need.returns-in-Break-take-2
 returns-in-Break-take-2 c =
     let p = err-from-errBy (c .from-residual-in-Break-take-2 .result) (c .from-residual-in-Break-take-2 .ensures .1) in
-    rw (p .1, p .2) (stopped (c .args .source .now) (length (c .args .source .now)) _ _ _ (c .if-source-gt-MOST-BYTES .left) (c .in-Break-take-2 .ensures tt))
+    rw (p .1, p .2) (stopped (c .args .source .now) (length (c .args .source .now)) (c .in-Break-take-2 .field-0 .0) (placed (c .take-2 .last .tokens)) (c .take-2 .last .reader) (c .if-source-gt-MOST-BYTES .left) (c .in-Break-take-2 .ensures tt))
 
 pub returns : need.returns
-returns c = short (c .args .source .now) (c .if-source-gt-MOST-BYTES .left) ∙ finished (c .args .source .now) _ _ (c .in-Continue-take-2 .ensures tt)
+returns c = short (c .args .source .now) (c .if-source-gt-MOST-BYTES .left) ∙ finished (c .args .source .now) (placed (c .take-2 .last .tokens)) (c .take-2 .last .reader) (c .in-Continue-take-2 .ensures tt)
