@@ -21,7 +21,7 @@ const MOST_DIGITS: usize = 10;
 const GREATEST: u64 = 2_147_483_647;
 
 /// The token that a whole run is, or the run's fault.
-pub fn run_kind(run: Run, text: &[u8]) -> Result<TokenKind<'_>, Fault>
+pub(crate) fn run_kind(run: Run, text: &[u8]) -> Result<TokenKind<'_>, Fault>
     requires { ⌜ AllOf run (now text) ⌝ }
     ensures { λ r. ⌜ kind-meaning r ≡ meaning (piece (run-sort run) (now (text .entry))) ⌝ }
 {
