@@ -1,0 +1,4 @@
+pub mod Bnf
+pub mod Law
+pub mod Machine
+pub mod Tree
