@@ -140,3 +140,12 @@ abbrev pub Ends : ℕ → List Token → ℕ → Result ℕ ParseError → Type 
 Ends end ts at (Ok next) = (next ≡ at + 1) × (isSome (sign-first Close (rest ts at)) ≡ true)
 Ends end ts at (Err (Refused x)) = (sign-first Close (rest ts at) ≡ None) × (x .fault ≡ NotAllowed) × (x .place ≡ place-first (rest ts at) end)
 Ends end ts at (Err Memory) = ⊥
+
+-- what a loop over operators does to the operand before it: from the tree a at one index to the tree grown from a at the next
+pub record Grows (end depth : ℕ) (P : Level → Type 0) (ts : List Token) (start next : ℕ) (was now : List Op) : Type 0 where
+  pub grow : Expr → Expr
+  pub suffix : List Op
+  pub spelt : (a : Expr) → postfix (grow a) ≡ postfix a ++ suffix
+  pub code : now ≡ was ++ suffix
+  pub further : start ≤ next
+  pub leads : (a : Expr) (k : Around) (l : Level) (ls : List Level) → P l → Fits k depth ls → parse end (has k l ls a) (rest ts start) ≡ parse end (has k l ls (grow a)) (rest ts next)
