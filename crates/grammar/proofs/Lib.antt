@@ -1,1 +1,11 @@
-pub mod Example
+pub mod Closings
+pub mod Declaring
+pub mod Endings
+pub mod Expressions
+pub mod Grammatical
+pub mod Invariant
+pub mod Operands
+pub mod Programs
+pub mod Statements
+pub mod Steps
+pub mod Tests

@@ -9,10 +9,10 @@ use lib.Dec.{ltb}
 use lib.ListN.{length, drop, length-drop, length-map}
 use Rattle.grammar.specs.Machine.{Level, State, after, closed, either, factor-of, fresh, is-sign, leaf, only, take-operator, value-of, with-operand}
 use Rattle.grammar.specs.Tree.{Expr, Operator, plus, times, equal, differ, binary, group}
-use Rattle.parser.specs.Code.{Op, apply, op-of, ops, postfix}
+use Rattle.outline.specs.Code.{Op, apply, op-of, ops, postfix}
 use Rattle.parser.specs.Parsing.{Verdict, refused, begun, deep, met, most-parentheses, most-parts, parse}
 use Rattle.parser.specs.Progress.{AnyLevel, AnyRest, Around, Done, Fits, Grows, NoPlus, NoProduct, NoStar, NoSum, Refuses, ClosesNot, Encloses, Ends, comparison-first, has, leaf-code, leaf-postfix, place-first, rest, sign-first, wants}
-use Rattle.parser.specs.declared.code.Instruction.{Instruction}
+use Rattle.outline.specs.declared.code.Instruction.{Instruction}
 use Rattle.parser.specs.declared.fault.Fault.the-variants.{NotAllowed}
 use Rattle.parser.specs.declared.fault.ParseError.{ParseError}
 use Rattle.parser.specs.declared.fault.ParseError.the-variants.{Refused, Memory}
@@ -73,7 +73,7 @@ module _ (end : ℕ) (k : Around) (depth : ℕ) (ls : List Level) (fits : Fits k
   -- at an operator
   at-kind : (l : Level) (e : Expr) (t : Placed) (us : List Placed) (x : Kind) (s : State) → t .kind ≡ x → take-operator (k .declared) (k .parts) (k .before) (k .purpose) l ls e (t .place) x ≡ Some s → deep s ≡ false → parse end (has k l ls e) (t ∷ us) ≡ parse end s us
   at-kind l e t us x s is e′ d =
-    taken (t .place) _ s (λ next. parse end next us) (ap (λ y. take-operator (k .declared) (k .parts) (k .before) (k .purpose) l ls e (t .place) y) is ∙ e′) d
+      taken (t .place) _ s (λ next. parse end next us) (ap (λ y. take-operator (k .declared) (k .parts) (k .before) (k .purpose) l ls e (t .place) y) is ∙ e′) d
 
   at-star : (l : Level) (e : Expr) (t : Placed) (us : List Placed) → t .kind ≡ sign Star → parse end (has k l ls e) (t ∷ us) ≡ parse end (wants k (level (l .compared) (l .summed) (Some (t .place, factor-of l e))) ls) us
   at-star l e t us is = at-kind l e t us (sign Star) _ is refl (quiet fits few)
@@ -127,13 +127,13 @@ more-code op p suffix b was sofar mid now e f g =
 module _ (end : ℕ) (ts : List Token) (k : Around) (depth : ℕ) (ls : List Level) (fits : Fits k depth ls) (few : depth ≤ most-parentheses) (next p : ℕ) where
   pub onto-star : sign-first Star (rest ts next) ≡ Some p → (l : Level) (e : Expr) → parse end (has k l ls e) (rest ts next) ≡ parse end (wants k (level (l .compared) (l .summed) (Some (p, factor-of l e))) ls) (rest ts (next + 1))
   onto-star star l e =
-    let s = signed Star (rest ts next) p star in
-    ap (parse end (has k l ls e)) (s .first) ∙ at-star end k depth ls fits few l e (s .token) (s .others) (s .kind) ∙ ap (λ n. parse end (wants k (level (l .compared) (l .summed) (Some (n, factor-of l e))) ls) (s .others)) (s .place) ∙ ap (parse end (wants k (level (l .compared) (l .summed) (Some (p, factor-of l e))) ls)) (sym (rest-next ts next (s .token) (s .others) (s .first)))
+      let s = signed Star (rest ts next) p star in
+      ap (parse end (has k l ls e)) (s .first) ∙ at-star end k depth ls fits few l e (s .token) (s .others) (s .kind) ∙ ap (λ n. parse end (wants k (level (l .compared) (l .summed) (Some (n, factor-of l e))) ls) (s .others)) (s .place) ∙ ap (parse end (wants k (level (l .compared) (l .summed) (Some (p, factor-of l e))) ls)) (sym (rest-next ts next (s .token) (s .others) (s .first)))
 
   pub onto-plus : sign-first Plus (rest ts next) ≡ Some p → (l : Level) (e : Expr) → parse end (has k l ls e) (rest ts next) ≡ parse end (wants k (level (l .compared) (Some (p, value-of l e)) None) ls) (rest ts (next + 1))
   onto-plus sum l e =
-    let s = signed Plus (rest ts next) p sum in
-    ap (parse end (has k l ls e)) (s .first) ∙ at-plus end k depth ls fits few l e (s .token) (s .others) (s .kind) ∙ ap (λ n. parse end (wants k (level (l .compared) (Some (n, value-of l e)) None) ls) (s .others)) (s .place) ∙ ap (parse end (wants k (level (l .compared) (Some (p, value-of l e)) None) ls)) (sym (rest-next ts next (s .token) (s .others) (s .first)))
+      let s = signed Plus (rest ts next) p sum in
+      ap (parse end (has k l ls e)) (s .first) ∙ at-plus end k depth ls fits few l e (s .token) (s .others) (s .kind) ∙ ap (λ n. parse end (wants k (level (l .compared) (Some (n, value-of l e)) None) ls) (s .others)) (s .place) ∙ ap (parse end (wants k (level (l .compared) (Some (p, value-of l e)) None) ls)) (sym (rest-next ts next (s .token) (s .others) (s .first)))
 
 pub sign-within : (s : signs.Sign) (ts : List Token) (at p : ℕ) → sign-first s (rest ts at) ≡ Some p → at < length ts
 sign-within s ts at p e = let t = signed s (rest ts at) p e in rest-within ts at (t .token) (t .others) (t .first)
@@ -216,9 +216,9 @@ no-comparison t us e = go (is-sign Equals (t .kind)) (is-sign Differs (t .kind))
 module _ (end : ℕ) (ts : List Token) (k : Around) (depth : ℕ) (m : Level) (ms : List Level) (fits : Fits k depth (m ∷ ms)) (few : depth ≤ most-parentheses) (at : ℕ) where
   pub onto-comparison : (p : ℕ) (op : Operator) (a : Expr) → comparison-first (rest ts at) ≡ Some (p, op) → parse end (has k fresh (m ∷ ms) a) (rest ts at) ≡ parse end (wants k (level (Some (p, op, a)) None None) (m ∷ ms)) (rest ts (at + 1))
   onto-comparison p op a e =
-    let s = comparing (rest ts at) p op e in
-    let onward : (q : ℕ) (o : Operator) → q ≡ p → o ≡ op → parse end (wants k (level (Some (q, o, a)) None None) (m ∷ ms)) (s .others) ≡ parse end (wants k (level (Some (p, op, a)) None None) (m ∷ ms)) (rest ts (at + 1)) = λ q o f g. ap (λ n. parse end (wants k (level (Some (n, o, a)) None None) (m ∷ ms)) (s .others)) f ∙ ap (λ n. parse end (wants k (level (Some (p, n, a)) None None) (m ∷ ms)) (s .others)) g ∙ ap (parse end (wants k (level (Some (p, op, a)) None None) (m ∷ ms))) (sym (rest-next ts at (s .token) (s .others) (s .first))) in
-    ap (parse end (has k fresh (m ∷ ms) a)) (s .first) ∙ ⊎-elim (λ h. at-kind end k depth (m ∷ ms) fits few fresh a (s .token) (s .others) (sign Equals) _ (h .0) refl (quiet fits few) ∙ onward (s .token .place) equal (s .place) (sym (h .1))) (λ h. at-kind end k depth (m ∷ ms) fits few fresh a (s .token) (s .others) (sign Differs) _ (h .0) refl (quiet fits few) ∙ onward (s .token .place) differ (s .place) (sym (h .1))) (s .kind)
+      let s = comparing (rest ts at) p op e in
+      let onward : (q : ℕ) (o : Operator) → q ≡ p → o ≡ op → parse end (wants k (level (Some (q, o, a)) None None) (m ∷ ms)) (s .others) ≡ parse end (wants k (level (Some (p, op, a)) None None) (m ∷ ms)) (rest ts (at + 1)) = λ q o f g. ap (λ n. parse end (wants k (level (Some (n, o, a)) None None) (m ∷ ms)) (s .others)) f ∙ ap (λ n. parse end (wants k (level (Some (p, n, a)) None None) (m ∷ ms)) (s .others)) g ∙ ap (parse end (wants k (level (Some (p, op, a)) None None) (m ∷ ms))) (sym (rest-next ts at (s .token) (s .others) (s .first))) in
+      ap (parse end (has k fresh (m ∷ ms) a)) (s .first) ∙ ⊎-elim (λ h. at-kind end k depth (m ∷ ms) fits few fresh a (s .token) (s .others) (sign Equals) _ (h .0) refl (quiet fits few) ∙ onward (s .token .place) equal (s .place) (sym (h .1))) (λ h. at-kind end k depth (m ∷ ms) fits few fresh a (s .token) (s .others) (sign Differs) _ (h .0) refl (quiet fits few) ∙ onward (s .token .place) differ (s .place) (sym (h .1))) (s .kind)
 
   fits-outside : Fits k (depth - 1) ms
   fits-outside = record { parentheses = omega (arith, fits .parentheses); parts = fits .parts }
@@ -229,8 +229,8 @@ module _ (end : ℕ) (ts : List Token) (k : Around) (depth : ℕ) (m : Level) (m
       go : (o : Option ℕ) → sign-first Close (rest ts at) ≡ o → isSome o ≡ true → parse end (has k l (m ∷ ms) e) (rest ts at) ≡ parse end (has k m ms (closed l e)) (rest ts (at + 1))
       go None is some = absurd (grind arith)
       go (Some p) is some =
-        let s = signed Close (rest ts at) p is in
-        ap (parse end (has k l (m ∷ ms) e)) (s .first) ∙ at-kind end k depth (m ∷ ms) fits few l e (s .token) (s .others) (sign Close) _ (s .kind) refl (quiet fits-outside (omega arith)) ∙ ap (parse end (has k m ms (closed l e))) (sym (rest-next ts at (s .token) (s .others) (s .first)))
+          let s = signed Close (rest ts at) p is in
+          ap (parse end (has k l (m ∷ ms) e)) (s .first) ∙ at-kind end k depth (m ∷ ms) fits few l e (s .token) (s .others) (sign Close) _ (s .kind) refl (quiet fits-outside (omega arith)) ∙ ap (parse end (has k m ms (closed l e))) (sym (rest-next ts at (s .token) (s .others) (s .first)))
 
   -- nothing that may stand there
   pub not-closed : (e : Expr) → NoPlus (rest ts at) → comparison-first (rest ts at) ≡ None → sign-first Close (rest ts at) ≡ None → parse end (has k fresh (m ∷ ms) e) (rest ts at) ≡ refused NotAllowed (place-first (rest ts at) end)
@@ -239,8 +239,8 @@ module _ (end : ℕ) (ts : List Token) (k : Around) (depth : ℕ) (m : Level) (m
       go : (us : List Placed) → NoPlus us → comparison-first us ≡ None → sign-first Close us ≡ None → parse end (has k fresh (m ∷ ms) e) us ≡ refused NotAllowed (place-first us end)
       go [] plain single unclosed = refl
       go (t ∷ us) plain single unclosed =
-        let c = no-comparison t us single in
-        rw (no-star t us Star (plain .0), no-star t us Plus (plain .1), c .0, c .1, no-star t us Close unclosed)
+          let c = no-comparison t us single in
+          rw (no-star t us Star (plain .0), no-star t us Plus (plain .1), c .0, c .1, no-star t us Close unclosed)
 
   pub not-closed-again : (c : ℕ × Operator × Expr) (e : Expr) → NoPlus (rest ts at) → sign-first Close (rest ts at) ≡ None → parse end (has k (level (Some c) None None) (m ∷ ms) e) (rest ts at) ≡ refused NotAllowed (place-first (rest ts at) end)
   not-closed-again c e plain unclosed = go (rest ts at) plain unclosed
@@ -248,7 +248,7 @@ module _ (end : ℕ) (ts : List Token) (k : Around) (depth : ℕ) (m : Level) (m
       go : (us : List Placed) → NoPlus us → sign-first Close us ≡ None → parse end (has k (level (Some c) None None) (m ∷ ms) e) us ≡ refused NotAllowed (place-first us end)
       go [] plain unclosed = refl
       go (t ∷ us) plain unclosed =
-        rw (no-star t us Star (plain .0), no-star t us Plus (plain .1), no-star t us Close unclosed, after-none (is-sign Equals (t .kind)), after-none (is-sign Differs (t .kind)))
+          rw (no-star t us Star (plain .0), no-star t us Plus (plain .1), no-star t us Close unclosed, after-none (is-sign Equals (t .kind)), after-none (is-sign Differs (t .kind)))
 
 -- a name or a constant
 leaf-found : (o : Option Expr) (i : Instruction) → leaf-code (Some i) ≡ leaf-postfix o → (e : Expr) × (o ≡ Some e) × (postfix e ≡ op-of i ∷ [])

@@ -1,3 +1,3 @@
-pub mod Code
 pub mod Parsing
 pub mod Progress
+pub mod Statements

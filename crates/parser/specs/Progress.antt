@@ -15,10 +15,10 @@ use Rattle.tokens.specs.Tokens.{Placed, token-of}
 use Rattle.tokens.specs.declared.sign.Sign as signs
 use Rattle.tokens.specs.declared.sign.Sign.the-variants.{Plus, Star, Equals, Differs, Close}
 use Rattle.tokens.specs.declared.token.Token.{Token}
-use Rattle.parser.specs.Code.{Op, op-of, operator-of, postfix}
+use Rattle.outline.specs.Code.{Op, op-of, operator-of, postfix}
 use Rattle.parser.specs.Parsing.{begun, most-parentheses, most-parts, parse, refused}
-use Rattle.parser.specs.declared.code.Instruction.{Instruction}
-use Rattle.parser.specs.declared.code.Operator as operators
+use Rattle.outline.specs.declared.code.Instruction.{Instruction}
+use Rattle.outline.specs.declared.code.Operator as operators
 use Rattle.parser.specs.declared.fault.Fault.the-variants.{NotAllowed}
 use Rattle.parser.specs.declared.fault.ParseError.{ParseError}
 use Rattle.parser.specs.declared.fault.ParseError.the-variants.{Refused, Memory}

@@ -1,10 +1,8 @@
 // Expressions: four functions that call each other, one for each level of the grammar.
 ghost use mathlib.Core.Path.{_≡_};
 ghost use Prim.Native.Nat.{_≤_};
-ghost use Rattle.parser.specs.Code.{ops};
+ghost use Rattle.outline.specs.Code.{ops};
 ghost use Rattle.parser.specs.Progress.{AnyLevel, AnyRest, Encloses, Ends, NoPlus, NoProduct, NoStar, NoSum, Parses, compared-of, comparison-first, rest};
-use crate::code::Instruction;
-use crate::code::Operator;
 use crate::fault::Fault;
 use crate::fault::ParseError;
 use crate::fault::ParseErrorFromAlloc;
@@ -14,6 +12,8 @@ use crate::look::is_sign;
 use crate::look::leaf_of;
 use crate::look::sign_at;
 use crate::look::token_at;
+use outline::code::Instruction;
+use outline::code::Operator;
 use tokens::sign::Sign;
 use tokens::token::Token;
 
@@ -26,7 +26,13 @@ pub(crate) fn refuse(fault: Fault, place: usize) -> ParseError
 }
 
 /// Parses an expression from `at` on, with `depth` parentheses open; adds its code, and tells the index behind it.
-pub(crate) fn expression<'a>(tokens: &[Token<'a>], end: usize, at: usize, depth: usize, code: &mut Vec<Instruction<'a>>) -> Result<usize, ParseError>
+pub(crate) fn expression<'a>(
+    tokens: &[Token<'a>],
+    end: usize,
+    at: usize,
+    depth: usize,
+    code: &mut Vec<Instruction<'a>>,
+) -> Result<usize, ParseError>
     requires { ⌜ depth ≤ 16 ⌝ }
     ensures { λ r. ⌜ Parses end depth NoSum NoPlus (now (tokens .entry)) at (ops (now (code .entry))) r (ops (now (code .exit))) ⌝ }
 {
@@ -38,7 +44,13 @@ pub(crate) fn expression<'a>(tokens: &[Token<'a>], end: usize, at: usize, depth:
     Ok(next)
 }
 
-fn factor<'a>(tokens: &[Token<'a>], end: usize, at: usize, depth: usize, code: &mut Vec<Instruction<'a>>) -> Result<usize, ParseError>
+fn factor<'a>(
+    tokens: &[Token<'a>],
+    end: usize,
+    at: usize,
+    depth: usize,
+    code: &mut Vec<Instruction<'a>>,
+) -> Result<usize, ParseError>
     requires { ⌜ depth ≤ 16 ⌝ }
     ensures { λ r. ⌜ Parses end depth NoProduct NoStar (now (tokens .entry)) at (ops (now (code .entry))) r (ops (now (code .exit))) ⌝ }
 {
@@ -50,7 +62,13 @@ fn factor<'a>(tokens: &[Token<'a>], end: usize, at: usize, depth: usize, code: &
     Ok(next)
 }
 
-fn primary<'a>(tokens: &[Token<'a>], end: usize, at: usize, depth: usize, code: &mut Vec<Instruction<'a>>) -> Result<usize, ParseError>
+fn primary<'a>(
+    tokens: &[Token<'a>],
+    end: usize,
+    at: usize,
+    depth: usize,
+    code: &mut Vec<Instruction<'a>>,
+) -> Result<usize, ParseError>
     requires { ⌜ depth ≤ 16 ⌝ }
     ensures { λ r. ⌜ Parses end depth AnyLevel AnyRest (now (tokens .entry)) at (ops (now (code .entry))) r (ops (now (code .exit))) ⌝ }
 {
@@ -71,7 +89,13 @@ fn primary<'a>(tokens: &[Token<'a>], end: usize, at: usize, depth: usize, code: 
 }
 
 /// What stands between parentheses, an expression or a comparison, and the `)`.
-fn comparison<'a>(tokens: &[Token<'a>], end: usize, at: usize, depth: usize, code: &mut Vec<Instruction<'a>>) -> Result<usize, ParseError>
+fn comparison<'a>(
+    tokens: &[Token<'a>],
+    end: usize,
+    at: usize,
+    depth: usize,
+    code: &mut Vec<Instruction<'a>>,
+) -> Result<usize, ParseError>
     requires { ⌜ depth ≤ 16 ⌝ }
     ensures { λ r. ⌜ Encloses end depth (now (tokens .entry)) at (ops (now (code .entry))) r (ops (now (code .exit))) ⌝ }
 {

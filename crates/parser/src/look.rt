@@ -3,7 +3,7 @@ ghost use mathlib.Core.Path.{_≡_};
 ghost use Rattle.grammar.specs.Machine.{is-sign, leaf};
 ghost use Rattle.parser.specs.Progress.{Looks, leaf-code, leaf-postfix, rest, sign-first};
 ghost use Rattle.tokens.specs.Tokens.{kind-of};
-use crate::code::Instruction;
+use outline::code::Instruction;
 use tokens::sign::Sign;
 use tokens::sign::SignPartialEq;
 use tokens::token::Token;

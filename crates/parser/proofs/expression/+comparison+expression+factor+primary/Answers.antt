@@ -1,7 +1,7 @@
 use mathlib.Core.Path.{_≡_, refl, sym, ap, _∙_}
 use native.Mathlib.Omega.{arith}
 use borrow.Author.Needs.{needs}
-use Rattle.parser.specs.Code.{operator-of}
+use Rattle.outline.specs.Code.{operator-of}
 use Rattle.parser.specs.Progress.{NoPlus, NoProduct, NoStar, NoSum}
 use Rattle.std.proofs.Told.{chosen}
 use Rattle.std.proofs.shelf.Results.{err-from-errBy}

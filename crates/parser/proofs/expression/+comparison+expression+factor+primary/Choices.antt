@@ -1,7 +1,7 @@
 use mathlib.Core.Path.{_≡_}
 use Prim.Native.Nat.{_+_, _-_, _*_}
 use lib.ListN.{length}
-use Rattle.parser.specs.Code.{ops}
+use Rattle.outline.specs.Code.{ops}
 use Rattle.parser.specs.Progress.{Grows, NoProduct, NoStar, NoSum, rest}
 use Rattle.parser.proofs.expression.+comparison+expression+factor+primary.Given as given
 
