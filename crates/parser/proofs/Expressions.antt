@@ -8,7 +8,7 @@ use native.Mathlib.Omega.{arith}
 use lib.Dec.{ltb}
 use lib.ListN.{length, drop, length-drop, length-map}
 use Rattle.grammar.specs.Machine.{Level, State, after, closed, either, factor-of, fresh, is-sign, leaf, only, take-operator, value-of, with-operand}
-use Rattle.grammar.specs.Tree.{Expr, Operator, plus, times, equal, differ, binary, group}
+use Rattle.grammar.specs.Tree.{Expr, Operator, plus, times, equal, differ, variable, binary, group}
 use Rattle.outline.specs.Code.{Op, apply, op-of, ops, postfix}
 use Rattle.parser.specs.Parsing.{Verdict, refused, begun, deep, met, most-parentheses, most-parts, parse}
 use Rattle.parser.specs.Progress.{AnyLevel, AnyRest, Around, Done, Fits, Grows, NoPlus, NoProduct, NoStar, NoSum, Refuses, ClosesNot, Encloses, Ends, comparison-first, has, leaf-code, leaf-postfix, place-first, rest, sign-first, wants}
@@ -57,7 +57,7 @@ pub rest-within : (ts : List Token) (at : ℕ) (t : Placed) (us : List Placed) �
 rest-within ts at t us e = omega (arith, length-drop at (map token-of ts), length-map ts token-of, ap length e)
 
 -- a state that is not too deep is gone on from
-taken : (p : ℕ) (o : Option State) (s : State) (next : State → Verdict) → o ≡ Some s → deep s ≡ false → met p o next ≡ next s
+pub taken : (p : ℕ) (o : Option State) (s : State) (next : State → Verdict) → o ≡ Some s → deep s ≡ false → met p o next ≡ next s
 taken p o s next e d = ap (λ x. met p x next) e ∙ cond-false _ _ _ d
 
 refuses : (p : ℕ) (o : Option State) (next : State → Verdict) → o ≡ None → met p o next ≡ refused NotAllowed p
@@ -86,8 +86,8 @@ product-joined : (end : ℕ) (k : Around) (ls : List Level) (c : Option (ℕ × 
 product-joined end k ls c s p a b [] = refl
 product-joined end k ls c s p a b (t ∷ us) = refl
 
-no-star : (t : Placed) (us : List Placed) (x : signs.Sign) → sign-first x (t ∷ us) ≡ None → is-sign x (t .kind) ≡ false
-no-star t us x e = go (is-sign x (t .kind)) e
+pub no-sign : (t : Placed) (us : List Placed) (x : signs.Sign) → sign-first x (t ∷ us) ≡ None → is-sign x (t .kind) ≡ false
+no-sign t us x e = go (is-sign x (t .kind)) e
   where
     go : (b : Bool) → cond b (Some (t .place)) None ≡ None → b ≡ false
     go true e = absurd (grind arith)
@@ -95,7 +95,7 @@ no-star t us x e = go (is-sign x (t .kind)) e
 
 sum-joined : (end : ℕ) (k : Around) (ls : List Level) (c : Option (ℕ × Operator × Expr)) (p : ℕ) (a b : Expr) (us : List Placed) → NoStar us → parse end (has k (level c (Some (p, a)) None) ls b) us ≡ parse end (has k (level c None None) ls (binary p plus a b)) us
 sum-joined end k ls c p a b [] none = refl
-sum-joined end k ls c p a b (t ∷ us) none = rw (no-star t us Star none)
+sum-joined end k ls c p a b (t ∷ us) none = rw (no-sign t us Star none)
 
 -- a level with nothing waiting, as far as that is known
 no-product : (Q : Level → Type 0) → ((c : Option (ℕ × Operator × Expr)) (s : Option (ℕ × Expr)) → Q (level c s None)) → (l : Level) → NoProduct l → Q l
@@ -112,6 +112,7 @@ grown-none end depth P ts at was = record {
   spelt = λ a. sym (append-nil (postfix a));
   code = sym (append-nil was);
   further = omega arith;
+  kept = λ a p n e. (e, refl);
   leads = λ a k l ls q f. refl;
 }
 
@@ -138,6 +139,9 @@ module _ (end : ℕ) (ts : List Token) (k : Around) (depth : ℕ) (ls : List Lev
 pub sign-within : (s : signs.Sign) (ts : List Token) (at p : ℕ) → sign-first s (rest ts at) ≡ Some p → at < length ts
 sign-within s ts at p e = let t = signed s (rest ts at) p e in rest-within ts at (t .token) (t .others) (t .first)
 
+not-joined : (p : ℕ) (op : Operator) (a b : Expr) (q : ℕ) (n : List ℕ) → binary p op a b ≡ variable q n → ⊥
+not-joined p op a b q n e = grind arith
+
 pub grown-product : {end depth : ℕ} {ts : List Token} {start : ℕ} {was : List Op} {next last p : ℕ} {sofar mid now : List Op} → depth ≤ most-parentheses → Grows end depth NoProduct ts start next was sofar → sign-first Star (rest ts next) ≡ Some p → Done end depth AnyLevel AnyRest ts (next + 1) last sofar mid → now ≡ mid ++ apply p times ∷ [] → Grows end depth NoProduct ts start last was now
 grown-product {end} {depth} {ts} {start} {was} {next} {last} {p} {sofar} {mid} {now} few g star right pushed = record {
   grow = λ a. binary p times (g .grow a) (right .tree);
@@ -145,6 +149,7 @@ grown-product {end} {depth} {ts} {start} {was} {next} {last} {p} {sofar} {mid} {
   spelt = longer times p (g .grow) (g .suffix) (right .tree) (g .spelt);
   code = more-code times p (g .suffix) (right .tree) was sofar mid now (g .code) (right .code) pushed;
   further = omega (arith, g .further, right .further);
+  kept = λ a q n e. absurd (not-joined _ _ _ _ q n e);
   leads = λ a k l ls q f.
       g .leads a k l ls q f ∙ no-product (λ m. parse end (has k m ls (g .grow a)) (rest ts next) ≡ parse end (has k m ls (binary p times (g .grow a) (right .tree))) (rest ts last)) (λ c u. onto-star end ts k depth ls f few next p star (level c u None) (g .grow a) ∙ right .reads k (level c u (Some (p, g .grow a))) ls tt f ∙ product-joined end k ls c u p (g .grow a) (right .tree) (rest ts last)) l q;
 }
@@ -156,6 +161,7 @@ grown-sum {end} {depth} {ts} {start} {was} {next} {last} {p} {sofar} {mid} {now}
   spelt = longer plus p (g .grow) (g .suffix) (right .tree) (g .spelt);
   code = more-code plus p (g .suffix) (right .tree) was sofar mid now (g .code) (right .code) pushed;
   further = omega (arith, g .further, right .further);
+  kept = λ a q n e. absurd (not-joined _ _ _ _ q n e);
   leads = λ a k l ls q f.
       g .leads a k l ls q f ∙ no-sum (λ m. parse end (has k m ls (g .grow a)) (rest ts next) ≡ parse end (has k m ls (binary p plus (g .grow a) (right .tree))) (rest ts last)) (λ c. onto-plus end ts k depth ls f few next p sum (level c None None) (g .grow a) ∙ right .reads k (level c (Some (p, g .grow a)) None) ls refl f ∙ sum-joined end k ls c p (g .grow a) (right .tree) (rest ts last) (right .stops)) l q;
 }
@@ -167,6 +173,7 @@ grown-done {was = was} P Q weaker first g stops = record {
   further = omega (arith, first .further, g .further);
   reads = λ k l ls q f. first .reads k l ls (weaker l q) f ∙ g .leads (first .tree) k l ls q f;
   stops = stops;
+  single = λ p n e. let k = g .kept (first .tree) p n e in let f = first .single p n (k .0) in (k .1 ∙ f .0, f .1);
   code = g .code ∙ ap (λ l. l ++ g .suffix) (first .code) ∙ append-assoc was (postfix (first .tree)) (g .suffix) ∙ ap (λ l. was ++ l) (sym (g .spelt (first .tree)));
 }
 
@@ -201,7 +208,7 @@ comparing (t ∷ ts) p op e = go (is-sign Equals (t .kind)) (is-sign Differs (t 
     go false true f g e = record { token = t; others = ts; first = refl; kind = inr (sign-is Differs (t .kind) g, sym (ap (λ x. x .1) (some-same _ _ e))); place = ap (λ x. x .0) (some-same _ _ e) }
     go false false f g e = absurd (grind arith)
 
-after-none : (b : Bool) → after b None ≡ None
+pub after-none : (b : Bool) → after b None ≡ None
 after-none true = refl
 after-none false = refl
 
@@ -240,7 +247,7 @@ module _ (end : ℕ) (ts : List Token) (k : Around) (depth : ℕ) (m : Level) (m
       go [] plain single unclosed = refl
       go (t ∷ us) plain single unclosed =
           let c = no-comparison t us single in
-          rw (no-star t us Star (plain .0), no-star t us Plus (plain .1), c .0, c .1, no-star t us Close unclosed)
+          rw (no-sign t us Star (plain .0), no-sign t us Plus (plain .1), c .0, c .1, no-sign t us Close unclosed)
 
   pub not-closed-again : (c : ℕ × Operator × Expr) (e : Expr) → NoPlus (rest ts at) → sign-first Close (rest ts at) ≡ None → parse end (has k (level (Some c) None None) (m ∷ ms) e) (rest ts at) ≡ refused NotAllowed (place-first (rest ts at) end)
   not-closed-again c e plain unclosed = go (rest ts at) plain unclosed
@@ -248,14 +255,20 @@ module _ (end : ℕ) (ts : List Token) (k : Around) (depth : ℕ) (m : Level) (m
       go : (us : List Placed) → NoPlus us → sign-first Close us ≡ None → parse end (has k (level (Some c) None None) (m ∷ ms) e) us ≡ refused NotAllowed (place-first us end)
       go [] plain unclosed = refl
       go (t ∷ us) plain unclosed =
-          rw (no-star t us Star (plain .0), no-star t us Plus (plain .1), no-star t us Close unclosed, after-none (is-sign Equals (t .kind)), after-none (is-sign Differs (t .kind)))
+          rw (no-sign t us Star (plain .0), no-sign t us Plus (plain .1), no-sign t us Close unclosed, after-none (is-sign Equals (t .kind)), after-none (is-sign Differs (t .kind)))
 
 -- a name or a constant
 leaf-found : (o : Option Expr) (i : Instruction) → leaf-code (Some i) ≡ leaf-postfix o → (e : Expr) × (o ≡ Some e) × (postfix e ≡ op-of i ∷ [])
 leaf-found None i e = absurd (grind arith)
 leaf-found (Some x) i e = (x, refl, sym (some-same _ _ e))
 
-at-leaf : (end : ℕ) (k : Around) (depth : ℕ) (l : Level) (ls : List Level) (t : Placed) (us : List Placed) (e : Expr) → Fits k depth ls → depth ≤ most-parentheses → leaf (t .kind) (t .place) ≡ Some e → parse end (wants k l ls) (t ∷ us) ≡ parse end (has k l ls e) us
+leaf-name : (k : Kind) (q p : ℕ) (n : List ℕ) → leaf k q ≡ Some (variable p n) → (k ≡ Kind.name n) × (q ≡ p)
+leaf-name (Kind.word w) q p n e = absurd (grind arith)
+leaf-name (Kind.sign s) q p n e = absurd (grind arith)
+leaf-name (Kind.name m) q p n e = (cc, cc)
+leaf-name (Kind.constant m) q p n e = absurd (grind arith)
+
+pub at-leaf : (end : ℕ) (k : Around) (depth : ℕ) (l : Level) (ls : List Level) (t : Placed) (us : List Placed) (e : Expr) → Fits k depth ls → depth ≤ most-parentheses → leaf (t .kind) (t .place) ≡ Some e → parse end (wants k l ls) (t ∷ us) ≡ parse end (has k l ls e) us
 at-leaf end k depth l ls t us e fits few is =
     taken (t .place) _ (has k l ls e) (λ next. parse end next us) (ap (λ o. either (with-operand (k .declared) (k .parts) (k .before) (k .purpose) l ls o) (only (is-sign Open (t .kind)) (wants k fresh (l ∷ ls)))) is) (quiet fits few)
 
@@ -267,6 +280,7 @@ leaf-done {end} {depth} {at} {ts} {was} {now} t i few here is pushed =
       further = omega arith;
       reads = λ k l ls q fits. ap (parse end (wants k l ls)) here ∙ at-leaf end k depth l ls (token-of t) (rest ts (at + 1)) (f .0) fits few (f .1);
       stops = tt;
+      single = λ p n e. let named = leaf-name (kind-of (t .kind)) (t .place) p n (f .1 ∙ ap Some e) in (refl, here ∙ ap (λ x. x ∷ rest ts (at + 1)) (λ i. record { place = named .1 i; kind = named .0 i }));
       code = pushed ∙ ap (λ l. was ++ l) (sym (f .2));
     }
 
@@ -279,6 +293,7 @@ one-enclosed {end} {depth} {at} {left} {ts} (Ok next) few d single e = record {
   tree = group (d .tree);
   further = omega (arith, d .further, e .0);
   reads = λ k m ms f. d .reads k fresh (m ∷ ms) (refl, refl) f ∙ onto-close end ts k depth m ms f few left fresh (d .tree) (e .1) ∙ ap (λ n. parse end (has k m ms (group (d .tree))) (rest ts n)) (sym (e .0));
+  compound = λ p n e. grind arith;
   code = d .code;
 }
 one-enclosed {end} {depth} {at} {left} {ts} (Err (Refused x)) few d single e = λ k m ms f.
@@ -299,6 +314,7 @@ module _ {end depth at left : ℕ} {ts : List Token} {was mid : List Op} (few : 
     tree = binary p op (a .tree) (b .tree);
     further = omega (arith, a .further, b .further, e .0);
     reads = λ k m ms f. onto-right k m ms f ∙ b .reads k (level (Some (p, op, a .tree)) None None) (m ∷ ms) (refl, refl) f ∙ onto-close end ts k depth m ms f few right (level (Some (p, op, a .tree)) None None) (b .tree) (e .1) ∙ ap (λ n. parse end (has k m ms (binary p op (a .tree) (b .tree))) (rest ts n)) (sym (e .0));
+    compound = λ q n e. not-joined p op (a .tree) (b .tree) q n e;
     code = pushed ∙ ap (λ l. l ++ apply p op ∷ []) (b .code ∙ ap (λ l. l ++ postfix (b .tree)) (a .code)) ∙ simp append-assoc;
   }
   two-enclosed {right} (Err (Refused x)) b pushed e = λ k m ms f.

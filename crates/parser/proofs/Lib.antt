@@ -1,2 +1,3 @@
 pub mod Expressions
 pub mod Looks
+pub mod Statements

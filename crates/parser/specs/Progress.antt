@@ -5,13 +5,13 @@ use mathlib.Core.List.{List, [], _∷_, _++_, map}
 use Prim.Native.Nat.{ℕ, _+_, _≤_, _<_}
 use lib.ListN.{length, drop}
 use Rattle.grammar.specs.Machine.{Level, Part, Purpose, State, fresh, inside, operand, operand-read, is-sign, leaf}
-use Rattle.grammar.specs.Tree.{Declared, Expr, Operator, Stmt, equal, differ}
+use Rattle.grammar.specs.Tree.{Declared, Expr, Operator, Stmt, differ, equal, variable}
 use Rattle.std.specs.Options.{isSome}
 use Rattle.std.specs.declared.option.Option.{Option}
 use Rattle.std.specs.declared.option.Option.the-variants.{Some, None}
 use Rattle.std.specs.declared.result.Result.{Result}
 use Rattle.std.specs.declared.result.Result.the-variants.{Ok, Err}
-use Rattle.tokens.specs.Tokens.{Placed, token-of}
+use Rattle.tokens.specs.Tokens.{Kind, Placed, token-of}
 use Rattle.tokens.specs.declared.sign.Sign as signs
 use Rattle.tokens.specs.declared.sign.Sign.the-variants.{Plus, Star, Equals, Differs, Close}
 use Rattle.tokens.specs.declared.token.Token.{Token}
@@ -99,11 +99,16 @@ NoStar us = sign-first Star us ≡ None
 abbrev pub NoPlus : List Placed → Type 0
 NoPlus us = (sign-first Star us ≡ None) × (sign-first Plus us ≡ None)
 
+-- a tree that is a lone name has been read from that name alone
+abbrev pub Single : List Token → ℕ → ℕ → Expr → Type 0
+Single ts at next e = (p : ℕ) (n : List ℕ) → e ≡ variable p n → (next ≡ at + 1) × (rest ts at ≡ record { place = p; kind = Kind.name n } ∷ rest ts (at + 1))
+
 pub record Done (end depth : ℕ) (P : Level → Type 0) (Q : List Placed → Type 0) (ts : List Token) (at next : ℕ) (was now : List Op) : Type 0 where
   pub tree : Expr
   pub further : at < next
   pub reads : Reads end depth P (rest ts at) (rest ts next) tree
   pub stops : Q (rest ts next)
+  pub single : Single ts at next tree
   pub code : now ≡ was ++ postfix tree
 
 -- the answer of a function that parses an expression, a factor or a primary from an index on
@@ -116,6 +121,7 @@ pub record Closes (end depth : ℕ) (ts : List Token) (at next : ℕ) (was now :
   pub tree : Expr
   pub further : at < next
   pub reads : (k : Around) (m : Level) (ms : List Level) → Fits k depth (m ∷ ms) → parse end (wants k fresh (m ∷ ms)) (rest ts at) ≡ parse end (has k m ms tree) (rest ts next)
+  pub compound : (p : ℕ) (n : List ℕ) → tree ≡ variable p n → ⊥
   pub code : now ≡ was ++ postfix tree
 
 abbrev pub ClosesNot : ℕ → ℕ → List Placed → ParseError → Type 0
@@ -148,4 +154,5 @@ pub record Grows (end depth : ℕ) (P : Level → Type 0) (ts : List Token) (sta
   pub spelt : (a : Expr) → postfix (grow a) ≡ postfix a ++ suffix
   pub code : now ≡ was ++ suffix
   pub further : start ≤ next
+  pub kept : (a : Expr) (p : ℕ) (n : List ℕ) → grow a ≡ variable p n → (a ≡ variable p n) × (next ≡ start)
   pub leads : (a : Expr) (k : Around) (l : Level) (ls : List Level) → P l → Fits k depth ls → parse end (has k l ls a) (rest ts start) ≡ parse end (has k l ls (grow a)) (rest ts next)

@@ -10,13 +10,14 @@ use Rattle.std.specs.declared.option.Option.{Option}
 use Rattle.std.specs.declared.option.Option.the-variants.{Some, None}
 use Rattle.std.specs.declared.result.Result.{Result}
 use Rattle.std.specs.declared.result.Result.the-variants.{Ok, Err}
-use Rattle.tokens.specs.Tokens.{Placed}
+use Rattle.tokens.specs.Tokens.{Kind, Placed}
+use denote.Ref.{RefT}
 use Rattle.tokens.specs.declared.token.Token.{Token}
 use Rattle.tokens.specs.declared.word.Word as words
 use Rattle.tokens.specs.declared.word.Word.the-variants.{Then, Do}
-use Rattle.outline.specs.Code.{Op, flat, flats, postfix, test, otherwise, head, enter}
+use Rattle.outline.specs.Code.{Op, enter, flat, head, postfix, source, test}
 use Rattle.parser.specs.Parsing.{Verdict, most-parts, parse, refused}
-use Rattle.parser.specs.Progress.{Around, Fits, has, rest, wants}
+use Rattle.parser.specs.Progress.{Around, Fits, NoPlus, has, rest, wants}
 use Rattle.parser.specs.declared.fault.ParseError.{ParseError}
 use Rattle.parser.specs.declared.fault.ParseError.the-variants.{Refused, Memory}
 use Rattle.parser.specs.declared.statement.Begun.{Begun}
@@ -112,3 +113,39 @@ BeginsNot end opened ts Memory = Unit {0}
 abbrev pub Begins : ℕ → ℕ → List Token → ℕ → List Op → Result (ℕ × Begun) ParseError → List Op → Type 0
 Begins end opened ts at was (Ok x) now = BeginsAs end opened ts at was (x .1) (x .0) now
 Begins end opened ts at was (Err e) now = BeginsNot end opened (rest ts at) e
+
+-- a name that no `*` or `+` follows, or that there is none
+abbrev pub Lone : List Token → ℕ → Option (ℕ × RefT (List ℕ)) → Type 0
+Lone ts at None = (p : ℕ) (n : List ℕ) → rest ts at ≡ record { place = p; kind = Kind.name n } ∷ rest ts (at + 1) → NoPlus (rest ts (at + 1)) → ⊥
+Lone ts at (Some x) = (rest ts at ≡ record { place = x .0; kind = Kind.name (x .1 .now) } ∷ rest ts (at + 1)) × NoPlus (rest ts (at + 1))
+
+-- the right side of an assignment
+pub record Sourced (end : ℕ) (ts : List Token) (at next : ℕ) (was now : List Op) : Type 0 where
+  pub tree : Expr
+  pub further : at < next
+  pub reads : (k : Around) → Fits k 0 [] → parse end (wants k fresh []) (rest ts at) ≡ parse end (has k fresh [] tree) (rest ts next)
+  pub stops : NoPlus (rest ts next)
+  pub code : now ≡ was ++ source tree
+
+abbrev pub SourcedNot : ℕ → List Placed → ParseError → Type 0
+SourcedNot end ts (Refused x) = (k : Around) → Fits k 0 [] → parse end (wants k fresh []) ts ≡ refused (x .fault) (x .place)
+SourcedNot end ts Memory = Unit {0}
+
+abbrev pub Sources : ℕ → List Token → ℕ → List Op → Result ℕ ParseError → List Op → Type 0
+Sources end ts at was (Ok next) now = Sourced end ts at next was now
+Sources end ts at was (Err e) now = SourcedNot end (rest ts at) e
+
+-- a part's condition up to the word behind it: from the state after its first token
+pub record Headed (end : ℕ) (u : Purpose) (part : ℕ → Expr → List Stmt → Part) (lead : ℕ → Expr → List Op) (place : ℕ) (ts : List Token) (at next : ℕ) (was now : List Op) : Type 0 where
+  pub tree : Expr
+  pub further : at < next
+  pub reads : (ds : List Declared) (parts : List Part) (before : List Stmt) → length parts < most-parts → parse end (inside ds parts before (operand u fresh [])) (rest ts at) ≡ parse end (inside ds (part place tree before ∷ parts) [] wanted) (rest ts next)
+  pub code : now ≡ was ++ lead place tree
+
+abbrev pub HeadedNot : ℕ → Purpose → List Placed → ParseError → Type 0
+HeadedNot end u ts (Refused x) = (ds : List Declared) (parts : List Part) (before : List Stmt) → length parts < most-parts → parse end (inside ds parts before (operand u fresh [])) ts ≡ refused (x .fault) (x .place)
+HeadedNot end u ts Memory = Unit {0}
+
+abbrev pub Heads : ℕ → Purpose → (ℕ → Expr → List Stmt → Part) → (ℕ → Expr → List Op) → ℕ → List Token → ℕ → List Op → Result ℕ ParseError → List Op → Type 0
+Heads end u part lead place ts at was (Ok next) now = Headed end u part lead place ts at next was now
+Heads end u part lead place ts at was (Err e) now = HeadedNot end u (rest ts at) e
