@@ -1,3 +1,4 @@
 pub mod Expressions
 pub mod Looks
 pub mod Statements
+pub mod Trains

@@ -111,7 +111,7 @@ BeginsNot end opened ts (Refused x) = (ds : List Declared) (parts : List Part) (
 BeginsNot end opened ts Memory = Unit {0}
 
 abbrev pub Begins : ℕ → ℕ → List Token → ℕ → List Op → Result (ℕ × Begun) ParseError → List Op → Type 0
-Begins end opened ts at was (Ok x) now = BeginsAs end opened ts at was (x .1) (x .0) now
+Begins end opened ts at was (Ok x) now = (at < length ts) × BeginsAs end opened ts at was (x .1) (x .0) now
 Begins end opened ts at was (Err e) now = BeginsNot end opened (rest ts at) e
 
 -- a name that no `*` or `+` follows, or that there is none

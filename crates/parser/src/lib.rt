@@ -3,3 +3,4 @@ mod expression;
 pub mod fault;
 mod look;
 mod statement;
+pub mod train;
