@@ -22,7 +22,7 @@ use Rattle.tokens.specs.declared.token.Token.{Token}
 use Rattle.parser.specs.Parsing.{Verdict, deep, met, most-parts, parse, refused}
 use Rattle.parser.specs.Progress.{rest}
 use Rattle.parser.specs.Statements.{BeginsNot, Ended, Parted, choice-lead, loop-lead}
-use Rattle.parser.specs.Trains.{CompleteAt, FinishedAt, Moves, WantedAt, closed-by, decide, emitted, flat-list, kind-of-part, kinds, sofar}
+use Rattle.parser.specs.Trains.{CompleteAt, Ends, FinishedAt, Moves, WantedAt, closed-by, decide, emitted, flat-list, kind-of-part, kinds, sofar}
 use Rattle.parser.specs.declared.fault.Fault.the-variants.{NotAllowed}
 use Rattle.parser.specs.declared.fault.ParseError.{ParseError}
 use Rattle.parser.specs.declared.fault.ParseError.the-variants.{Refused, Memory}
@@ -254,3 +254,13 @@ turned-stack s u v o b parts stacked pop kept push p ps e =
 
 pub left-stack : (s u : Stack Part) (o : Option Part) (parts : List machine.Part) → held s ≡ kinds parts → Popped s o u → (p : machine.Part) (ps : List machine.Part) → parts ≡ p ∷ ps → held u ≡ kinds ps
 left-stack s u o parts stacked pop p ps e = popped s u p ps o (stacked ∙ ap kinds e) pop
+
+pub stopped : (all : Verdict) (end : ℕ) (ds : List Declared) (ts : List Token) (at : ℕ) (e : ParseError) (stack : List Part) (now : List Op) → Moves all end ds ts at (Err e) stack now → Ends all ds (Err e) now
+stopped all end ds ts at (Refused x) stack now m = m
+stopped all end ds ts at Memory stack now m = tt
+
+pub ended-all : {all : Verdict} {end : ℕ} {ds : List Declared} {ts : List Token} {at : ℕ} {now : List Op} → FinishedAt all end ds ts at now → rest ts at ≡ [] → Ends all ds (Ok tt) now
+ended-all {end = end} {ds} f none = (f .body, f .same ∙ ap (parse end (finished ds (f .body))) none, f .code)
+
+pub ended-more : {all : Verdict} {end : ℕ} {ds : List Declared} {ts : List Token} {at : ℕ} {now : List Op} (t : Placed) (us : List Placed) → FinishedAt all end ds ts at now → rest ts at ≡ t ∷ us → all ≡ refused NotAllowed (t .place)
+ended-more {end = end} {ds} t us f some = f .same ∙ ap (parse end (finished ds (f .body))) some

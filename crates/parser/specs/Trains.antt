@@ -15,7 +15,7 @@ use Rattle.std.specs.declared.option.Option.the-variants.{Some, None}
 use Rattle.std.specs.declared.result.Result.{Result}
 use Rattle.std.specs.declared.result.Result.the-variants.{Ok, Err}
 use Rattle.tokens.specs.declared.token.Token.{Token}
-use Rattle.parser.specs.Parsing.{Verdict, most-parts, parse, refused}
+use Rattle.parser.specs.Parsing.{Verdict, most-parts, parse, passed, refused}
 use Rattle.parser.specs.Progress.{rest}
 use Rattle.parser.specs.declared.fault.ParseError.{ParseError}
 use Rattle.parser.specs.declared.fault.ParseError.the-variants.{Refused, Memory}
@@ -109,10 +109,24 @@ Stands all end ds ts at progress.Finished stack code = FinishedAt all end ds ts 
 
 -- one step further, or refused
 abbrev pub Moves : Verdict → ℕ → List Declared → List Token → ℕ → Result (ℕ × Progress) ParseError → List Part → List Op → Type 0
-Moves all end ds ts at (Ok x) stack code = (at < length ts) × (at < x .0) × Stands all end ds ts (x .0) (x .1) stack code
+Moves all end ds ts at (Ok x) stack code = Stands all end ds ts (x .0) (x .1) stack code
 Moves all end ds ts at (Err (Refused x)) stack code = all ≡ refused (x .fault) (x .place)
 Moves all end ds ts at (Err Memory) stack code = Unit {0}
+
+-- at least one token has been taken
+abbrev pub Further : ℕ → ℕ → Result (ℕ × Progress) ParseError → Type 0
+Further most at (Ok x) = (at < most) × (at < x .0)
+Further most at (Err e) = Unit {0}
 
 -- from wherever the parser may stand
 abbrev pub Leads : ℕ → List Token → ℕ → Progress → List Part → List Op → Result (ℕ × Progress) ParseError → List Part → List Op → Type 0
 Leads end ts at was stack code r stack′ code′ = (all : Verdict) (ds : List Declared) → Stands all end ds ts at was stack code → Moves all end ds ts at r stack′ code′
+
+-- all statements up to the end of the tokens
+abbrev pub Ends : Verdict → List Declared → Result (Unit {0}) ParseError → List Op → Type 0
+Ends all ds (Ok u) now = (body : Train) × (all ≡ passed (record { declared = ds; body = body })) × (now ≡ flats body)
+Ends all ds (Err (Refused x)) now = all ≡ refused (x .fault) (x .place)
+Ends all ds (Err Memory) now = Unit {0}
+
+abbrev pub Whole : ℕ → List Token → ℕ → List Part → List Op → Result (Unit {0}) ParseError → List Op → Type 0
+Whole end ts at stack was r now = (all : Verdict) (ds : List Declared) → WantedAt all end ds ts at stack was → Ends all ds r now

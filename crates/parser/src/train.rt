@@ -7,7 +7,7 @@ ghost use Rattle.grammar.specs.Machine as machine;
 ghost use Rattle.grammar.specs.Machine.{end-statement};
 ghost use Rattle.grammar.specs.Tree.{Declared, Stmt};
 ghost use Rattle.outline.specs.Code.{ops};
-ghost use Rattle.parser.specs.Trains.{Leads, closed-by, decide};
+ghost use Rattle.parser.specs.Trains.{Further, Leads, Whole, closed-by, decide};
 ghost use Rattle.parser.specs.declared.train.Progress.the-variants.{Wanted, Complete};
 ghost use Rattle.stack.specs.Held.{held, room};
 ghost use Rattle.tokens.specs.Tokens.{kind-of};
@@ -97,6 +97,7 @@ fn begin_one<'a>(tokens: &[Token<'a>], end: usize, at: usize, parts: &mut Stack<
     requires few { ⌜ length (held (now parts)) ≤ 16 ⌝ }
     requires space { ⌜ 16 ≤ room (now parts) ⌝ }
     ensures leads { λ r. ⌜ Leads end (now (tokens .entry)) at Wanted (held (now (parts .entry))) (ops (now (code .entry))) r (held (now (parts .exit))) (ops (now (code .exit))) ⌝ }
+    ensures further { λ r. ⌜ Further (length (now (tokens .entry))) at r ⌝ }
     ensures few { λ _. ⌜ length (held (now (parts .exit))) ≤ 16 ⌝ }
     ensures kept { λ _. ⌜ room (now (parts .exit)) ≡ room (now (parts .entry)) ⌝ }
 {
@@ -119,6 +120,7 @@ fn begin_one<'a>(tokens: &[Token<'a>], end: usize, at: usize, parts: &mut Stack<
 fn end_one<'a>(tokens: &[Token<'a>], end: usize, at: usize, parts: &mut Stack<'_, Part>, code: &mut Vec<Instruction<'a>>) -> Result<(usize, Progress), ParseError>
     requires few { ⌜ length (held (now parts)) ≤ 16 ⌝ }
     ensures leads { λ r. ⌜ Leads end (now (tokens .entry)) at Complete (held (now (parts .entry))) (ops (now (code .entry))) r (held (now (parts .exit))) (ops (now (code .exit))) ⌝ }
+    ensures further { λ r. ⌜ Further (length (now (tokens .entry))) at r ⌝ }
     ensures few { λ _. ⌜ length (held (now (parts .exit))) ≤ 16 ⌝ }
     ensures kept { λ _. ⌜ room (now (parts .exit)) ≡ room (now (parts .entry)) ⌝ }
 {
@@ -145,5 +147,28 @@ fn end_one<'a>(tokens: &[Token<'a>], end: usize, at: usize, parts: &mut Stack<'_
         }
         Ending::Finish => Ok((at + 1, Progress::Finished)),
         Ending::Wrong => Err(refuse(Fault::NotAllowed, token.place)),
+    }
+}
+
+/// All statements, up to the program's `end`, behind which nothing may follow.
+pub(crate) fn statements<'a>(tokens: &[Token<'a>], end: usize, at: usize, parts: &mut Stack<'_, Part>, code: &mut Vec<Instruction<'a>>) -> Result<(), ParseError>
+    requires few { ⌜ length (held (now parts)) ≤ 16 ⌝ }
+    requires space { ⌜ 16 ≤ room (now parts) ⌝ }
+    ensures { λ r. ⌜ Whole end (now (tokens .entry)) at (held (now (parts .entry))) (ops (now (code .entry))) r (ops (now (code .exit))) ⌝ }
+{
+    let mut here = at;
+    let mut progress = Progress::Wanted;
+    loop {
+        let (next, after) = match progress {
+            Progress::Wanted => begin_one(tokens, end, here, parts, code)?,
+            Progress::Complete => end_one(tokens, end, here, parts, code)?,
+            Progress::Finished => break,
+        };
+        here = next;
+        progress = after;
+    }
+    match token_at(tokens, here) {
+        Some(token) => Err(refuse(Fault::NotAllowed, token.place)),
+        None => Ok(()),
     }
 }

@@ -16,6 +16,7 @@ returns-in-Break-next c =
     let p = err-from-errBy (c .from-residual .result) (c .from-residual .ensures .1) in
     rw (p .1, p .2) (record {
       leads = λ all ds w. begun-refused (c .len .result) (c .in-Break-next .field-0 .0) _ _ (sym (c .len .ensures .counted)) (c .in-Break-next .ensures tt) w;
+      further = tt;
       few = c .pre .few;
       kept = refl;
     })
@@ -26,7 +27,8 @@ returns-in-Choice c =
     let space : length (held (c .args .parts .now)) < room (c .args .parts .now) = omega (arith, d .few, c .len .ensures .counted, c .pre .space) in
     let on = pushed-on (c .args .parts .now) (c .push .last .self) Then (c .push .result) space (c .push .ensures .pushed) in
     record {
-      leads = λ all ds w. (c .in-Continue-next .ensures tt .0, d .further, begun-choice w (sym (c .len .ensures .counted)) d on);
+      leads = λ all ds w. begun-choice w (sym (c .len .ensures .counted)) d on;
+      further = (c .in-Continue-next .ensures tt .0, d .further);
       few = omega (arith, d .few, c .len .ensures .counted, ap length on, length-push (held (c .args .parts .now)) Then);
       kept = c .push .ensures .kept;
     }
@@ -37,7 +39,8 @@ returns-in-Loop c =
     let space : length (held (c .args .parts .now)) < room (c .args .parts .now) = omega (arith, d .few, c .len .ensures .counted, c .pre .space) in
     let on = pushed-on (c .args .parts .now) (c .push-in-Loop .last .self) Loop (c .push-in-Loop .result) space (c .push-in-Loop .ensures .pushed) in
     record {
-      leads = λ all ds w. (c .in-Continue-next .ensures tt .0, d .further, begun-loop w (sym (c .len .ensures .counted)) d on);
+      leads = λ all ds w. begun-loop w (sym (c .len .ensures .counted)) d on;
+      further = (c .in-Continue-next .ensures tt .0, d .further);
       few = omega (arith, d .few, c .len .ensures .counted, ap length on, length-push (held (c .args .parts .now)) Loop);
       kept = c .push-in-Loop .ensures .kept;
     }

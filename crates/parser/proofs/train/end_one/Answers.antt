@@ -15,7 +15,8 @@ returns-in-Next c = record {
   leads = λ all ds w.
       let b = behind w (c .in-Some .ensures tt .1) (c .closes .ensures) in
           let k = as-closing (c .closes .result) (w .parts) (c .top .result) _ (c .in-Next .ensures tt) (topped (c .args .parts .now) (w .parts) (c .top .result) (w .stacked) (c .top .ensures)) in
-          (c .in-Some .ensures tt .0, omega arith, after-next k b (w .stacked) (w .code));
+          after-next k b (w .stacked) (w .code);
+  further = (c .in-Some .ensures tt .0, omega arith);
   few = c .pre .few;
   kept = refl;
 }
@@ -27,7 +28,8 @@ returns-in-Continue-push c =
       leads = λ all ds w.
           let b = behind w (c .in-Some .ensures tt .1) (c .closes .ensures) in
           let k = as-closing (c .closes .result) (w .parts) (c .top .result) _ (c .in-Turn .ensures tt) (topped (c .args .parts .now) (w .parts) (c .top .result) (w .stacked) (c .top .ensures)) in
-          (c .in-Some .ensures tt .0, omega arith, after-turn k b (turned-stack (c .args .parts .now) (c .pop .last .self) (c .push-in-Turn .last .self) (c .pop .result) (c .push-in-Turn .result) (w .parts) (w .stacked) (c .pop .ensures .popped) (c .pop .ensures .kept) (c .push-in-Turn .ensures .pushed)) (pushed-ops (c .args .code .now) (c .push .last .self) _ pushed ∙ ap (λ l. l ++ otherwise ∷ []) (w .code)));
+          after-turn k b (turned-stack (c .args .parts .now) (c .pop .last .self) (c .push-in-Turn .last .self) (c .pop .result) (c .push-in-Turn .result) (w .parts) (w .stacked) (c .pop .ensures .popped) (c .pop .ensures .kept) (c .push-in-Turn .ensures .pushed)) (pushed-ops (c .args .code .now) (c .push .last .self) _ pushed ∙ ap (λ l. l ++ otherwise ∷ []) (w .code));
+      further = (c .in-Some .ensures tt .0, omega arith);
       few = turned-few (c .args .parts .now) (c .pop .last .self) (c .push-in-Turn .last .self) (c .pop .result) Else (c .push-in-Turn .result) (c .pop .ensures .popped) (c .push-in-Turn .ensures .pushed) (c .pre .few);
       kept = c .push-in-Turn .ensures .kept ∙ c .pop .ensures .kept;
     }
@@ -39,7 +41,8 @@ returns-in-Continue-push-2 c =
       leads = λ all ds w.
           let b = behind w (c .in-Some .ensures tt .1) (c .closes .ensures) in
           let k = as-closing (c .closes .result) (w .parts) (c .top .result) _ (c .in-Join .ensures tt) (topped (c .args .parts .now) (w .parts) (c .top .result) (w .stacked) (c .top .ensures)) in
-          (c .in-Some .ensures tt .0, omega arith, after-join k b (left-stack (c .args .parts .now) (c .pop-in-Join .last .self) (c .pop-in-Join .result) (w .parts) (w .stacked) (c .pop-in-Join .ensures .popped)) (pushed-ops (c .args .code .now) (c .push-in-Join .last .self) _ pushed ∙ ap (λ l. l ++ join ∷ []) (w .code)));
+          after-join k b (left-stack (c .args .parts .now) (c .pop-in-Join .last .self) (c .pop-in-Join .result) (w .parts) (w .stacked) (c .pop-in-Join .ensures .popped)) (pushed-ops (c .args .code .now) (c .push-in-Join .last .self) _ pushed ∙ ap (λ l. l ++ join ∷ []) (w .code));
+      further = (c .in-Some .ensures tt .0, omega arith);
       few = popped-few (c .args .parts .now) (c .pop-in-Join .last .self) (c .pop-in-Join .result) (c .pop-in-Join .ensures .popped) (c .pre .few);
       kept = c .pop-in-Join .ensures .kept;
     }
@@ -51,7 +54,8 @@ returns-in-Continue-push-3 c =
       leads = λ all ds w.
           let b = behind w (c .in-Some .ensures tt .1) (c .closes .ensures) in
           let k = as-closing (c .closes .result) (w .parts) (c .top .result) _ (c .in-Repeat .ensures tt) (topped (c .args .parts .now) (w .parts) (c .top .result) (w .stacked) (c .top .ensures)) in
-          (c .in-Some .ensures tt .0, omega arith, after-repeat k b (left-stack (c .args .parts .now) (c .pop-in-Repeat .last .self) (c .pop-in-Repeat .result) (w .parts) (w .stacked) (c .pop-in-Repeat .ensures .popped)) (pushed-ops (c .args .code .now) (c .push-in-Repeat .last .self) _ pushed ∙ ap (λ l. l ++ repeat ∷ []) (w .code)));
+          after-repeat k b (left-stack (c .args .parts .now) (c .pop-in-Repeat .last .self) (c .pop-in-Repeat .result) (w .parts) (w .stacked) (c .pop-in-Repeat .ensures .popped)) (pushed-ops (c .args .code .now) (c .push-in-Repeat .last .self) _ pushed ∙ ap (λ l. l ++ repeat ∷ []) (w .code));
+      further = (c .in-Some .ensures tt .0, omega arith);
       few = popped-few (c .args .parts .now) (c .pop-in-Repeat .last .self) (c .pop-in-Repeat .result) (c .pop-in-Repeat .ensures .popped) (c .pre .few);
       kept = c .pop-in-Repeat .ensures .kept;
     }
@@ -61,7 +65,8 @@ returns-in-Finish c = record {
   leads = λ all ds w.
       let b = behind w (c .in-Some .ensures tt .1) (c .closes .ensures) in
           let k = as-closing (c .closes .result) (w .parts) (c .top .result) _ (c .in-Finish .ensures tt) (topped (c .args .parts .now) (w .parts) (c .top .result) (w .stacked) (c .top .ensures)) in
-          (c .in-Some .ensures tt .0, omega arith, after-finish k b (w .code));
+          after-finish k b (w .code);
+  further = (c .in-Some .ensures tt .0, omega arith);
   few = c .pre .few;
   kept = refl;
 }
@@ -72,6 +77,7 @@ returns-in-Wrong c = rw (c .refuse-in-Wrong .ensures) (record {
       let b = behind w (c .in-Some .ensures tt .1) (c .closes .ensures) in
           let k = as-closing (c .closes .result) (w .parts) (c .top .result) _ (c .in-Wrong .ensures tt) (topped (c .args .parts .now) (w .parts) (c .top .result) (w .stacked) (c .top .ensures)) in
           after-wrong k b;
+  further = tt;
   few = c .pre .few;
   kept = refl;
 })
