@@ -1,3 +1,4 @@
+pub mod Declarations
 pub mod Expressions
 pub mod Looks
 pub mod Statements

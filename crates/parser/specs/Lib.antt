@@ -1,3 +1,4 @@
+pub mod Declarations
 pub mod Parsing
 pub mod Progress
 pub mod Statements
