@@ -1,5 +1,6 @@
 pub mod Declarations
 pub mod Expressions
 pub mod Looks
+pub mod Programs
 pub mod Statements
 pub mod Trains

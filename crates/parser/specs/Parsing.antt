@@ -10,7 +10,7 @@ use Rattle.std.specs.declared.option.Option.{Option}
 use Rattle.std.specs.declared.option.Option.the-variants.{Some, None}
 use Rattle.tokens.specs.Tokens.{Placed}
 use Rattle.parser.specs.declared.fault.Fault.{Fault}
-use Rattle.parser.specs.declared.fault.Fault.the-variants.{NotAllowed, TooDeep}
+use Rattle.parser.specs.declared.fault.Fault.the-variants.{NotAllowed, TooDeep, MemoryShort}
 
 -- the limits: open parentheses, open parts, and `ref` in a mode
 abbrev pub most-parentheses : ℕ
@@ -73,3 +73,7 @@ met p (Some s) rest = cond (deep s) (refused TooDeep p) (rest s)
 abbrev pub parse : ℕ → State → List Placed → Verdict
 parse end s [] = at-end (program-of (Some s)) end
 parse end s (t ∷ ts) = met (t .place) (advance s t) (λ next. parse end next ts)
+
+-- all tokens of a source of so many bytes, with memory for so many open parts
+abbrev pub parsing : ℕ → ℕ → List Placed → Verdict
+parsing memory end ts = cond (ltb memory most-parts) (refused MemoryShort 0) (parse end opening ts)

@@ -25,11 +25,6 @@ use Rattle.parser.specs.declared.statement.Begun.the-variants as begun
 use Rattle.parser.specs.declared.statement.Opener.{Opener}
 use Rattle.parser.specs.declared.statement.Opener.the-variants as opener
 
--- whether the first token is a word
-abbrev pub word-first : words.Word → List Placed → Bool
-word-first w [] = false
-word-first w (t ∷ ts) = is-word w (t .kind)
-
 -- the state after the first token of a statement, by what it opens
 abbrev pub opened : List Declared → List Part → List Stmt → ℕ → Opener → Option State
 opened ds parts before p (opener.Name n) = Some (inside ds parts before (target p (n .now)))

@@ -1,14 +1,30 @@
 // What can be wrong with the order and the nesting of tokens.
 ghost use mathlib.Core.Path.{_≡_};
+ghost use Rattle.parser.specs.Faults.{number-of};
 ghost use Rattle.parser.specs.declared.fault.ParseError.the-variants.{Memory};
 use std::alloc::AllocError;
 use std::alloc::Refused;
 
-/// A token that is not allowed where it stands (or a source that ends early), or one that nests too deep.
+/// A token that is not allowed where it stands (or a source that ends early), one that nests too deep, or too little
+/// memory lent for the open parts.
 #[derive(Clone, Copy, PartialEq, Eq, Debug)]
 pub enum Fault {
     NotAllowed,
     TooDeep,
+    MemoryShort,
+}
+
+impl Fault {
+    /// The number by which a refusal tells the fault.
+    pub fn number(self) -> u8
+        ensures { λ r. ⌜ r ≡ number-of self ⌝ }
+    {
+        match self {
+            Fault::NotAllowed => 7,
+            Fault::TooDeep => 8,
+            Fault::MemoryShort => 23,
+        }
+    }
 }
 
 /// A fault with its place.

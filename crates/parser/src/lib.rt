@@ -3,5 +3,8 @@ mod declaration;
 mod expression;
 pub mod fault;
 mod look;
+mod program;
 mod statement;
 pub mod train;
+
+pub use program::parse_tokens;

@@ -6,7 +6,7 @@ ghost use Rattle.grammar.specs.Machine.{Part, begin-statement, for-choose, for-
 ghost use Rattle.grammar.specs.Tree.{Declared, Stmt};
 ghost use Rattle.outline.specs.Code.{ops};
 ghost use Rattle.parser.specs.Progress.{rest};
-ghost use Rattle.parser.specs.Statements.{Begins, EndsAs, Enters, Heads, Lone, Sources, choice-lead, loop-lead, opened, word-first};
+ghost use Rattle.parser.specs.Statements.{Begins, EndsAs, Enters, Heads, Lone, Sources, choice-lead, loop-lead, opened};
 ghost use Rattle.tokens.specs.Tokens.{kind-of};
 use crate::expression::expression;
 use crate::expression::refuse;
@@ -60,17 +60,7 @@ fn opens<'a>(kind: TokenKind<'a>) -> Opener<'a>
     }
 }
 
-/// Whether the token at an index is this word.
-pub(crate) fn word_at(tokens: &[Token<'_>], at: usize, word: Word) -> bool
-    ensures { λ r. ⌜ r ≡ word-first word (rest (now (tokens .entry)) at) ⌝ }
-{
-    match token_at(tokens, at) {
-        Some(token) => is_word(token.kind, word),
-        None => false,
-    }
-}
-
-fn is_word(kind: TokenKind<'_>, word: Word) -> bool
+pub(crate) fn is_word(kind: TokenKind<'_>, word: Word) -> bool
     ensures { λ r. ⌜ r ≡ is-word word (kind-of (kind .entry)) ⌝ }
 {
     match kind {
