@@ -1,0 +1,5 @@
+pub mod Answer
+pub mod Correct
+pub mod Faults
+pub mod Judging
+pub mod Law

@@ -1,0 +1,1 @@
+// What a sheet can be asked.
