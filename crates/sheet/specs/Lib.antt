@@ -3,3 +3,4 @@ pub mod Correct
 pub mod Faults
 pub mod Judging
 pub mod Law
+pub mod Sizes
