@@ -21,7 +21,7 @@ refs-more was sofar now k e f =
 module _ (ds : List Declared) (i : ℕ) (sofar all : List ℕ) (e : sofar ++ name-lines (map declared-of (drop i ds)) ≡ all) where
   pub names-more : (d : Declared) (now : List ℕ) → i < length ds → now ≡ sofar ++ name-line (declared-of (getD ds i d)) → now ++ name-lines (map declared-of (drop (i + 1) ds)) ≡ all
   names-more d now h f =
-    ap (λ l. l ++ name-lines (map declared-of (drop (i + 1) ds))) f ∙ append-assoc sofar _ _ ∙ sym (at-drop-more (λ l. sofar ++ name-lines (map declared-of l)) ds i d h) ∙ e
+      ap (λ l. l ++ name-lines (map declared-of (drop (i + 1) ds))) f ∙ append-assoc sofar _ _ ∙ sym (at-drop-more (λ l. sofar ++ name-lines (map declared-of l)) ds i d h) ∙ e
 
   pub names-all : length ds ≤ i → sofar ≡ all
   names-all h = sym (append-nil sofar) ∙ sym (at-drop-all (λ l. sofar ++ name-lines (map declared-of l)) ds i h) ∙ e

@@ -27,7 +27,7 @@ pushed-names v w d e = ap (map declared-of) e ∙ map-push declared-of (vec-item
 module _ (end : ℕ) (ts : List Token) (at refs : ℕ) (m : tree.Primitive) (was now : List tree.Declared) (p : ℕ) (n : List ℕ) (t : Placed) (here : rest ts at ≡ record { place = p; kind = name n } ∷ rest ts (at + 1)) (behind : rest ts (at + 1) ≡ t ∷ rest ts (at + 1 + 1)) (pushed : now ≡ was ++ declare p n refs m ∷ []) where
   named-at : parse end (naming was refs m) (rest ts at) ≡ parse end (named now refs m) (t ∷ rest ts (at + 1 + 1))
   named-at =
-    ap (parse end (naming was refs m)) here ∙ ap (λ ds. parse end (named ds refs m) (rest ts (at + 1))) (sym pushed) ∙ ap (parse end (named now refs m)) behind
+      ap (parse end (naming was refs m)) here ∙ ap (λ ds. parse end (named ds refs m) (rest ts (at + 1))) (sym pushed) ∙ ap (parse end (named now refs m)) behind
 
   two : rest ts (at + 1 + 1) ≡ rest ts (at + 2)
   two = let e : at + 1 + 1 ≡ at + 2 = omega arith in ap (rest ts) e

@@ -34,18 +34,18 @@ calm parts pt none few = or-from _ _ (le-ltb 16 _ (omega arith)) (le-ltb most-pa
 module _ (end : ℕ) (ds : List Declared) (parts : List Part) (before : List Stmt) where
   pub at-token : (pt : Point) (t : Placed) (us : List Placed) (x : Kind) (s : State) → t .kind ≡ x → at-point ds parts before pt (t .place) x ≡ Some s → deep s ≡ false → parse end (inside ds parts before pt) (t ∷ us) ≡ parse end s us
   at-token pt t us x s is e d =
-    taken (t .place) _ s (λ next. parse end next us) (ap (λ y. at-point ds parts before pt (t .place) y) is ∙ e) d
+      taken (t .place) _ s (λ next. parse end next us) (ap (λ y. at-point ds parts before pt (t .place) y) is ∙ e) d
 
   -- an expression that has ended is a whole assignment or output
   assigned : (p : ℕ) (n : List ℕ) (e : Expr) (us : List Placed) → NoPlus us → parse end (has (record { declared = ds; parts = parts; before = before; purpose = for-assign p n }) fresh [] e) us ≡ parse end (inside ds parts before (complete (assign p n e))) us
   assigned p n e [] plain = refl
   assigned p n e (t ∷ us) plain =
-    rw (no-sign t us Star (plain .0), no-sign t us Plus (plain .1), after-none (is-sign Equals (t .kind)), after-none (is-sign Differs (t .kind)), after-none (is-sign Close (t .kind)))
+      rw (no-sign t us Star (plain .0), no-sign t us Plus (plain .1), after-none (is-sign Equals (t .kind)), after-none (is-sign Differs (t .kind)), after-none (is-sign Close (t .kind)))
 
   written : (p : ℕ) (e : Expr) (us : List Placed) → NoPlus us → parse end (has (record { declared = ds; parts = parts; before = before; purpose = for-output p }) fresh [] e) us ≡ parse end (inside ds parts before (complete (output p e))) us
   written p e [] plain = refl
   written p e (t ∷ us) plain =
-    rw (no-sign t us Star (plain .0), no-sign t us Plus (plain .1), after-none (is-sign Equals (t .kind)), after-none (is-sign Differs (t .kind)), after-none (is-sign Close (t .kind)))
+      rw (no-sign t us Star (plain .0), no-sign t us Plus (plain .1), after-none (is-sign Equals (t .kind)), after-none (is-sign Differs (t .kind)), after-none (is-sign Close (t .kind)))
 
 pub input-done : {end at : ℕ} {ts : List Token} {was now : List Op} (p q : ℕ) (n : List ℕ) → rest ts at ≡ record { place = q; kind = name n } ∷ rest ts (at + 1) → now ≡ was ++ code.read p q n ∷ [] → Ended end (λ ds parts before. inside ds parts before (input-name p)) ts at (at + 1) was now
 input-done {end} {at} {ts} p q n here pushed = record {
@@ -85,7 +85,7 @@ lone-done {end} {at} {ts} p n here plain pushed = record {
 module _ (end at : ℕ) (ts : List Token) (p : ℕ) (n : List ℕ) (t : Placed) (here : rest ts at ≡ t ∷ rest ts (at + 1)) (is : is-sign Becomes (t .kind) ≡ true) where
   becomes : (ds : List Declared) (parts : List Part) (before : List Stmt) → length parts ≤ most-parts → parse end (inside ds parts before (target p n)) (rest ts at) ≡ parse end (wants (record { declared = ds; parts = parts; before = before; purpose = for-assign p n }) fresh []) (rest ts (at + 1))
   becomes ds parts before few =
-    ap (parse end (inside ds parts before (target p n))) here ∙ at-token end ds parts before (target p n) t (rest ts (at + 1)) (sign Becomes) _ (sign-is Becomes (t .kind) is) refl (calm parts (operand (for-assign p n) fresh []) refl (omega arith))
+      ap (parse end (inside ds parts before (target p n))) here ∙ at-token end ds parts before (target p n) t (rest ts (at + 1)) (sign Becomes) _ (sign-is Becomes (t .kind) is) refl (calm parts (operand (for-assign p n) fresh []) refl (omega arith))
 
   pub assignment-done : {next : ℕ} {was mid late now : List Op} → mid ≡ was ++ code.target p n ∷ [] → Sourced end ts (at + 1) next mid late → now ≡ late ++ code.store ∷ [] → Ended end (λ ds parts before. inside ds parts before (target p n)) ts at next was now
   assignment-done {next} {was} {mid} {late} {now} e s f = record {

@@ -88,27 +88,27 @@ module _ {all : Verdict} {end : ℕ} {ds : List Declared} {ts : List Token} {at 
 
   pub begun-choice : {next opened : ℕ} {now : List Op} {stack′ : List Part} → length stack ≡ opened → Parted end opened then-part choice-lead ts at next was now → stack′ ≡ stack ++ Then ∷ [] → WantedAt all end ds ts next stack′ now
   begun-choice {opened = opened} here d on =
-    let long = stacked-few (w .parts) (w .stacked) in
-    record {
-      parts = then-part (d .place) (d .tree) (w .before) ∷ w .parts;
-      before = [];
-      stacked = on ∙ ap (λ l. l ++ Then ∷ []) (w .stacked);
-      few = omega (arith, d .few);
-      code = d .code ∙ ap (λ l. l ++ choice-lead (d .place) (d .tree)) (w .code) ∙ sym (append-nil _);
-      same = w .same ∙ d .reads ds (w .parts) (w .before) (long ∙ here);
-    }
+      let long = stacked-few (w .parts) (w .stacked) in
+      record {
+        parts = then-part (d .place) (d .tree) (w .before) ∷ w .parts;
+        before = [];
+        stacked = on ∙ ap (λ l. l ++ Then ∷ []) (w .stacked);
+        few = omega (arith, d .few);
+        code = d .code ∙ ap (λ l. l ++ choice-lead (d .place) (d .tree)) (w .code) ∙ sym (append-nil _);
+        same = w .same ∙ d .reads ds (w .parts) (w .before) (long ∙ here);
+      }
 
   pub begun-loop : {next opened : ℕ} {now : List Op} {stack′ : List Part} → length stack ≡ opened → Parted end opened loop-part loop-lead ts at next was now → stack′ ≡ stack ++ Loop ∷ [] → WantedAt all end ds ts next stack′ now
   begun-loop {opened = opened} here d on =
-    let long = stacked-few (w .parts) (w .stacked) in
-    record {
-      parts = loop-part (d .place) (d .tree) (w .before) ∷ w .parts;
-      before = [];
-      stacked = on ∙ ap (λ l. l ++ Loop ∷ []) (w .stacked);
-      few = omega (arith, d .few);
-      code = d .code ∙ ap (λ l. l ++ loop-lead (d .place) (d .tree)) (w .code) ∙ sym (append-nil _);
-      same = w .same ∙ d .reads ds (w .parts) (w .before) (long ∙ here);
-    }
+      let long = stacked-few (w .parts) (w .stacked) in
+      record {
+        parts = loop-part (d .place) (d .tree) (w .before) ∷ w .parts;
+        before = [];
+        stacked = on ∙ ap (λ l. l ++ Loop ∷ []) (w .stacked);
+        few = omega (arith, d .few);
+        code = d .code ∙ ap (λ l. l ++ loop-lead (d .place) (d .tree)) (w .code) ∙ sym (append-nil _);
+        same = w .same ∙ d .reads ds (w .parts) (w .before) (long ∙ here);
+      }
 
 -- what the token behind a statement does to the parts
 pub data Closing : Closer → List machine.Part → Ending → Type 0 where
@@ -161,11 +161,11 @@ pub record Behind (all : Verdict) (end : ℕ) (ds : List Declared) (ts : List To
 module _ {all : Verdict} {end : ℕ} {ds : List Declared} {ts : List Token} {at : ℕ} {t : Placed} where
   onward : {c : Closer} {parts : List machine.Part} {before : List Stmt} {s : Stmt} → Behind all end ds ts at t c parts before s → (n : State) → closed-by ds parts before s c ≡ Some n → deep n ≡ false → all ≡ parse end n (rest ts (at + 1))
   onward {parts = parts} {before} {s} b n e quiet =
-    b .same ∙ ap (parse end (inside ds parts before (complete s))) (b .here) ∙ taken (t .place) _ n (λ m. parse end m (rest ts (at + 1))) (b .closes ∙ e) quiet
+      b .same ∙ ap (parse end (inside ds parts before (complete s))) (b .here) ∙ taken (t .place) _ n (λ m. parse end m (rest ts (at + 1))) (b .closes ∙ e) quiet
 
   pub after-wrong : {c : Closer} {parts : List machine.Part} {before : List Stmt} {s : Stmt} → Closing c parts ending.Wrong → Behind all end ds ts at t c parts before s → all ≡ refused NotAllowed (t .place)
   after-wrong {before = before} {s} (wrong {parts = parts} none) b =
-    b .same ∙ ap (parse end (inside ds parts before (complete s))) (b .here) ∙ ap (λ o. met (t .place) o (λ m. parse end m (rest ts (at + 1)))) (b .closes ∙ none ds before s)
+      b .same ∙ ap (parse end (inside ds parts before (complete s))) (b .here) ∙ ap (λ o. met (t .place) o (λ m. parse end m (rest ts (at + 1)))) (b .closes ∙ none ds before s)
 
   pub after-next : {c : Closer} {parts : List machine.Part} {before : List Stmt} {s : Stmt} {stack : List Part} {was : List Op} → Closing c parts ending.Next → Behind all end ds ts at t c parts before s → stack ≡ kinds parts → was ≡ emitted parts before ++ flat s → WantedAt all end ds ts (at + 1) stack was
   after-next {before = before} {s} (next {parts = parts}) b stacked code = record {

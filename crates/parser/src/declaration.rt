@@ -77,15 +77,30 @@ fn read_mode(tokens: &[Token<'_>], end: usize, at: usize) -> Result<Mode, ParseE
                 next += 1;
             }
             ModeWord::Ref => return Err(refuse(Fault::TooDeep, token.place)),
-            ModeWord::Int => return Ok(Mode { next: next + 1, refs, primitive: Primitive::Int }),
-            ModeWord::Bool => return Ok(Mode { next: next + 1, refs, primitive: Primitive::Bool }),
+            ModeWord::Int => return Ok(Mode {
+                next: next + 1,
+                refs,
+                primitive: Primitive::Int,
+            }),
+            ModeWord::Bool => return Ok(Mode {
+                next: next + 1,
+                refs,
+                primitive: Primitive::Bool,
+            }),
             ModeWord::Other => return Err(refuse(Fault::NotAllowed, token.place)),
         }
     }
 }
 
 /// One declared name, and the sign behind it.
-fn one_name<'a>(tokens: &[Token<'a>], end: usize, at: usize, refs: usize, primitive: Primitive, declared: &mut Vec<Declared<'a>>) -> Result<After, ParseError>
+fn one_name<'a>(
+    tokens: &[Token<'a>],
+    end: usize,
+    at: usize,
+    refs: usize,
+    primitive: Primitive,
+    declared: &mut Vec<Declared<'a>>,
+) -> Result<After, ParseError>
     ensures { λ r. ⌜ Names end refs (primitive-of primitive) (now (tokens .entry)) at (names (now (declared .entry))) r (names (now (declared .exit))) ⌝ }
 {
     let Some(token) = token_at(tokens, at) else {
@@ -95,7 +110,12 @@ fn one_name<'a>(tokens: &[Token<'a>], end: usize, at: usize, refs: usize, primit
         return Err(refuse(Fault::NotAllowed, token.place));
     };
     let place = token.place;
-    declared.push(Declared { place, name, refs, primitive })?;
+    declared.push(Declared {
+        place,
+        name,
+        refs,
+        primitive,
+    })?;
     let Some(sign) = token_at(tokens, at + 1) else {
         return Err(refuse(Fault::NotAllowed, end));
     };
@@ -109,7 +129,14 @@ fn one_name<'a>(tokens: &[Token<'a>], end: usize, at: usize, refs: usize, primit
 }
 
 /// The names of a declaration, and its `;`.
-fn all_names<'a>(tokens: &[Token<'a>], end: usize, at: usize, refs: usize, primitive: Primitive, declared: &mut Vec<Declared<'a>>) -> Result<usize, ParseError>
+fn all_names<'a>(
+    tokens: &[Token<'a>],
+    end: usize,
+    at: usize,
+    refs: usize,
+    primitive: Primitive,
+    declared: &mut Vec<Declared<'a>>,
+) -> Result<usize, ParseError>
     ensures { λ r. ⌜ Declares end (naming (names (now (declared .entry))) refs (primitive-of primitive)) (now (tokens .entry)) at between r (names (now (declared .exit))) ⌝ }
 {
     let mut here = at;
@@ -122,7 +149,12 @@ fn all_names<'a>(tokens: &[Token<'a>], end: usize, at: usize, refs: usize, primi
 }
 
 /// One declaration, and its `;`.
-pub(crate) fn declaration<'a>(tokens: &[Token<'a>], end: usize, at: usize, declared: &mut Vec<Declared<'a>>) -> Result<usize, ParseError>
+pub(crate) fn declaration<'a>(
+    tokens: &[Token<'a>],
+    end: usize,
+    at: usize,
+    declared: &mut Vec<Declared<'a>>,
+) -> Result<usize, ParseError>
     ensures { λ r. ⌜ Declares end (moding (names (now (declared .entry))) 0) (now (tokens .entry)) at between r (names (now (declared .exit))) ⌝ }
 {
     let mode = read_mode(tokens, end, at)?;
@@ -130,7 +162,12 @@ pub(crate) fn declaration<'a>(tokens: &[Token<'a>], end: usize, at: usize, decla
 }
 
 /// All declarations, up to the first token of a statement.
-pub(crate) fn declarations<'a>(tokens: &[Token<'a>], end: usize, at: usize, declared: &mut Vec<Declared<'a>>) -> Result<usize, ParseError>
+pub(crate) fn declarations<'a>(
+    tokens: &[Token<'a>],
+    end: usize,
+    at: usize,
+    declared: &mut Vec<Declared<'a>>,
+) -> Result<usize, ParseError>
     ensures { λ r. ⌜ Declares end (moding (names (now (declared .entry))) 0) (now (tokens .entry)) at (λ ds. inside ds [] [] wanted) r (names (now (declared .exit))) ⌝ }
 {
     let mut next = declaration(tokens, end, at, declared)?;

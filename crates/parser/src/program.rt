@@ -26,7 +26,12 @@ const MOST_PARTS: usize = 16;
 
 /// The outline of the program that the tokens of a source are, or why they are none. `end` is the length of the source
 /// in bytes, and `memory` is lent for the open parts: what it holds afterwards is free, and decides nothing.
-pub fn parse_tokens<'a>(heap: Global, tokens: &[Token<'a>], end: usize, memory: &mut [Part]) -> Result<Outline<'a>, ParseError>
+pub fn parse_tokens<'a>(
+    heap: Global,
+    tokens: &[Token<'a>],
+    end: usize,
+    memory: &mut [Part],
+) -> Result<Outline<'a>, ParseError>
     ensures { λ r. ⌜ Answers (parsing (length (now (memory .entry))) end (map token-of (now (tokens .entry)))) r ⌝ }
 {
     if memory.len() < MOST_PARTS {
@@ -36,7 +41,12 @@ pub fn parse_tokens<'a>(heap: Global, tokens: &[Token<'a>], end: usize, memory: 
     parse_program(heap, tokens, end, &mut parts)
 }
 
-fn parse_program<'a>(heap: Global, tokens: &[Token<'a>], end: usize, parts: &mut Stack<'_, Part>) -> Result<Outline<'a>, ParseError>
+fn parse_program<'a>(
+    heap: Global,
+    tokens: &[Token<'a>],
+    end: usize,
+    parts: &mut Stack<'_, Part>,
+) -> Result<Outline<'a>, ParseError>
     requires none { ⌜ held (now parts) ≡ [] ⌝ }
     requires space { ⌜ 16 ≤ room (now parts) ⌝ }
     ensures { λ r. ⌜ Answers (parse end opening (map token-of (now (tokens .entry)))) r ⌝ }

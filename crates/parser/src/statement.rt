@@ -93,7 +93,14 @@ fn condition<'a>(
 }
 
 /// An assignment, from its `:=` on.
-fn assignment<'a>(tokens: &[Token<'a>], end: usize, at: usize, place: usize, name: &'a str, code: &mut Vec<Instruction<'a>>) -> Result<usize, ParseError>
+fn assignment<'a>(
+    tokens: &[Token<'a>],
+    end: usize,
+    at: usize,
+    place: usize,
+    name: &'a str,
+    code: &mut Vec<Instruction<'a>>,
+) -> Result<usize, ParseError>
     ensures { λ r. ⌜ EndsAs end (λ ds parts before. inside ds parts before (target place (now (name .entry)))) (now (tokens .entry)) at (ops (now (code .entry))) r (ops (now (code .exit))) ⌝ }
 {
     let Some(token) = token_at(tokens, at) else {
@@ -109,7 +116,12 @@ fn assignment<'a>(tokens: &[Token<'a>], end: usize, at: usize, place: usize, nam
 }
 
 /// The right side of an assignment.
-fn source<'a>(tokens: &[Token<'a>], end: usize, at: usize, code: &mut Vec<Instruction<'a>>) -> Result<usize, ParseError>
+fn source<'a>(
+    tokens: &[Token<'a>],
+    end: usize,
+    at: usize,
+    code: &mut Vec<Instruction<'a>>,
+) -> Result<usize, ParseError>
     ensures { λ r. ⌜ Sources end (now (tokens .entry)) at (ops (now (code .entry))) r (ops (now (code .exit))) ⌝ }
 {
     if let Some((place, name)) = lone_name(tokens, at) {
@@ -126,7 +138,9 @@ fn lone_name<'a>(tokens: &[Token<'a>], at: usize) -> Option<(usize, &'a str)>
     let Some(token) = token_at(tokens, at) else {
         return None;
     };
-    if sign_at(tokens, at + 1, Sign::Star).is_some() || sign_at(tokens, at + 1, Sign::Plus).is_some() {
+    if sign_at(tokens, at + 1, Sign::Star).is_some()
+        || sign_at(tokens, at + 1, Sign::Plus).is_some()
+    {
         return None;
     }
     match token.kind {
@@ -138,7 +152,13 @@ fn lone_name<'a>(tokens: &[Token<'a>], at: usize) -> Option<(usize, &'a str)>
 }
 
 /// An input, from its name on.
-fn input<'a>(tokens: &[Token<'a>], end: usize, at: usize, place: usize, code: &mut Vec<Instruction<'a>>) -> Result<usize, ParseError>
+fn input<'a>(
+    tokens: &[Token<'a>],
+    end: usize,
+    at: usize,
+    place: usize,
+    code: &mut Vec<Instruction<'a>>,
+) -> Result<usize, ParseError>
     ensures { λ r. ⌜ EndsAs end (λ ds parts before. inside ds parts before (input-name place)) (now (tokens .entry)) at (ops (now (code .entry))) r (ops (now (code .exit))) ⌝ }
 {
     let Some(token) = token_at(tokens, at) else {
@@ -156,7 +176,13 @@ fn input<'a>(tokens: &[Token<'a>], end: usize, at: usize, place: usize, code: &m
 }
 
 /// An output, from its expression on.
-fn output<'a>(tokens: &[Token<'a>], end: usize, at: usize, place: usize, code: &mut Vec<Instruction<'a>>) -> Result<usize, ParseError>
+fn output<'a>(
+    tokens: &[Token<'a>],
+    end: usize,
+    at: usize,
+    place: usize,
+    code: &mut Vec<Instruction<'a>>,
+) -> Result<usize, ParseError>
     ensures { λ r. ⌜ EndsAs end (λ ds parts before. inside ds parts before (operand (for-output place) fresh [])) (now (tokens .entry)) at (ops (now (code .entry))) r (ops (now (code .exit))) ⌝ }
 {
     let next = expression(tokens, end, at, 0, code)?;
@@ -165,7 +191,13 @@ fn output<'a>(tokens: &[Token<'a>], end: usize, at: usize, place: usize, code: &
 }
 
 /// An `if`, from its condition up to its `then`.
-fn choice<'a>(tokens: &[Token<'a>], end: usize, at: usize, place: usize, code: &mut Vec<Instruction<'a>>) -> Result<usize, ParseError>
+fn choice<'a>(
+    tokens: &[Token<'a>],
+    end: usize,
+    at: usize,
+    place: usize,
+    code: &mut Vec<Instruction<'a>>,
+) -> Result<usize, ParseError>
     ensures { λ r. ⌜ Heads end (for-choose place) then-part choice-lead place (now (tokens .entry)) at (ops (now (code .entry))) r (ops (now (code .exit))) ⌝ }
 {
     let next = condition(tokens, end, at, Word::Then, code)?;
@@ -174,7 +206,13 @@ fn choice<'a>(tokens: &[Token<'a>], end: usize, at: usize, place: usize, code: &
 }
 
 /// A `while`, from its condition up to its `do`.
-fn repetition<'a>(tokens: &[Token<'a>], end: usize, at: usize, place: usize, code: &mut Vec<Instruction<'a>>) -> Result<usize, ParseError>
+fn repetition<'a>(
+    tokens: &[Token<'a>],
+    end: usize,
+    at: usize,
+    place: usize,
+    code: &mut Vec<Instruction<'a>>,
+) -> Result<usize, ParseError>
     ensures { λ r. ⌜ Heads end (for-loop place) loop-part loop-lead place (now (tokens .entry)) at (ops (now (code .entry))) r (ops (now (code .exit))) ⌝ }
 {
     code.push(Instruction::Head(place))?;
@@ -184,7 +222,13 @@ fn repetition<'a>(tokens: &[Token<'a>], end: usize, at: usize, place: usize, cod
 }
 
 /// The first tokens of a statement, with `open` parts open: all of it, or the beginning of a part.
-pub(crate) fn begin<'a>(tokens: &[Token<'a>], end: usize, at: usize, open: usize, code: &mut Vec<Instruction<'a>>) -> Result<(usize, Begun), ParseError>
+pub(crate) fn begin<'a>(
+    tokens: &[Token<'a>],
+    end: usize,
+    at: usize,
+    open: usize,
+    code: &mut Vec<Instruction<'a>>,
+) -> Result<(usize, Begun), ParseError>
     requires { ⌜ «open» ≤ 16 ⌝ }
     ensures { λ r. ⌜ Begins end «open» (now (tokens .entry)) at (ops (now (code .entry))) r (ops (now (code .exit))) ⌝ }
 {
@@ -193,11 +237,20 @@ pub(crate) fn begin<'a>(tokens: &[Token<'a>], end: usize, at: usize, open: usize
     };
     let place = token.place;
     match opens(token.kind) {
-        Opener::Name(name) => Ok((assignment(tokens, end, at + 1, place, name, code)?, Begun::Whole)),
+        Opener::Name(name) => Ok((
+            assignment(tokens, end, at + 1, place, name, code)?,
+            Begun::Whole,
+        )),
         Opener::Input => Ok((input(tokens, end, at + 1, place, code)?, Begun::Whole)),
         Opener::Output => Ok((output(tokens, end, at + 1, place, code)?, Begun::Whole)),
-        Opener::If if open < MOST_PARTS => Ok((choice(tokens, end, at + 1, place, code)?, Begun::Choice)),
-        Opener::While if open < MOST_PARTS => Ok((repetition(tokens, end, at + 1, place, code)?, Begun::Loop)),
+        Opener::If if open < MOST_PARTS => Ok((
+            choice(tokens, end, at + 1, place, code)?,
+            Begun::Choice,
+        )),
+        Opener::While if open < MOST_PARTS => Ok((
+            repetition(tokens, end, at + 1, place, code)?,
+            Begun::Loop,
+        )),
         Opener::If => Err(refuse(Fault::TooDeep, place)),
         Opener::While => Err(refuse(Fault::TooDeep, place)),
         Opener::Other => Err(refuse(Fault::NotAllowed, place)),

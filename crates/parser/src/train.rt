@@ -93,7 +93,13 @@ fn end_of(closer: Closer, innermost: Option<Part>) -> Ending
 }
 
 /// Takes the first tokens of a statement.
-fn begin_one<'a>(tokens: &[Token<'a>], end: usize, at: usize, parts: &mut Stack<'_, Part>, code: &mut Vec<Instruction<'a>>) -> Result<(usize, Progress), ParseError>
+fn begin_one<'a>(
+    tokens: &[Token<'a>],
+    end: usize,
+    at: usize,
+    parts: &mut Stack<'_, Part>,
+    code: &mut Vec<Instruction<'a>>,
+) -> Result<(usize, Progress), ParseError>
     requires few { ⌜ length (held (now parts)) ≤ 16 ⌝ }
     requires space { ⌜ 16 ≤ room (now parts) ⌝ }
     ensures leads { λ r. ⌜ Leads end (now (tokens .entry)) at Wanted (held (now (parts .entry))) (ops (now (code .entry))) r (held (now (parts .exit))) (ops (now (code .exit))) ⌝ }
@@ -117,7 +123,13 @@ fn begin_one<'a>(tokens: &[Token<'a>], end: usize, at: usize, parts: &mut Stack<
 }
 
 /// Takes the token behind a statement.
-fn end_one<'a>(tokens: &[Token<'a>], end: usize, at: usize, parts: &mut Stack<'_, Part>, code: &mut Vec<Instruction<'a>>) -> Result<(usize, Progress), ParseError>
+fn end_one<'a>(
+    tokens: &[Token<'a>],
+    end: usize,
+    at: usize,
+    parts: &mut Stack<'_, Part>,
+    code: &mut Vec<Instruction<'a>>,
+) -> Result<(usize, Progress), ParseError>
     requires few { ⌜ length (held (now parts)) ≤ 16 ⌝ }
     ensures leads { λ r. ⌜ Leads end (now (tokens .entry)) at Complete (held (now (parts .entry))) (ops (now (code .entry))) r (held (now (parts .exit))) (ops (now (code .exit))) ⌝ }
     ensures further { λ r. ⌜ Further (length (now (tokens .entry))) at r ⌝ }
@@ -151,7 +163,13 @@ fn end_one<'a>(tokens: &[Token<'a>], end: usize, at: usize, parts: &mut Stack<'_
 }
 
 /// All statements, up to the program's `end`, behind which nothing may follow.
-pub(crate) fn statements<'a>(tokens: &[Token<'a>], end: usize, at: usize, parts: &mut Stack<'_, Part>, code: &mut Vec<Instruction<'a>>) -> Result<(), ParseError>
+pub(crate) fn statements<'a>(
+    tokens: &[Token<'a>],
+    end: usize,
+    at: usize,
+    parts: &mut Stack<'_, Part>,
+    code: &mut Vec<Instruction<'a>>,
+) -> Result<(), ParseError>
     requires few { ⌜ length (held (now parts)) ≤ 16 ⌝ }
     requires space { ⌜ 16 ≤ room (now parts) ⌝ }
     ensures { λ r. ⌜ Whole end (now (tokens .entry)) at (held (now (parts .entry))) (ops (now (code .entry))) r (ops (now (code .exit))) ⌝ }

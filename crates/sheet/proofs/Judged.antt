@@ -60,6 +60,7 @@ stages memory source p ts e = by-memory (ltb memory most-parts) refl e
     by-modes : (q : Program) (us : List Placed) (v : declarations.Verdict) → first (declaring (q .declared)) (judge-train (q .declared) (q .body)) ≡ v → after-declaring v q us ≡ passed p ts → (q ≡ p) × (us ≡ ts) × (v ≡ None)
     by-modes q us None is e = (cc, cc, refl)
     by-modes q us (Some x) is e = absurd (grind arith)
+
     by-grammar : most-parts ≤ memory → (us : List Placed) → reading source ≡ texts.read us → (v : parsing.Verdict) → parse (length source) opening us ≡ v → after-parsing v us ≡ passed p ts → Stages memory source p ts
     by-grammar room us read (parsing.refused f q) is e = absurd (grind arith)
     by-grammar room us read (parsing.passed q) is e =
@@ -72,9 +73,11 @@ stages memory source p ts e = by-memory (ltb memory most-parts) refl e
           declared = subst (λ x. declaring (x .declared) ≡ None) (m .0) (b .0);
           judged = subst (λ x. judge-train (x .declared) (x .body) ≡ None) (m .0) (b .1);
         }
+
     by-reading : most-parts ≤ memory → (v : texts.Reading) → reading source ≡ v → after-reading v (length source) ≡ passed p ts → Stages memory source p ts
     by-reading room (texts.refused f q) is e = absurd (grind arith)
     by-reading room (texts.read us) is e = by-grammar room us is (parse (length source) opening us) refl e
+
     by-memory : (b : Bool) → ltb memory most-parts ≡ b → cond b (refused (Grammar MemoryShort) 0) (after-reading (reading source) (length source)) ≡ passed p ts → Stages memory source p ts
     by-memory true is e = absurd (grind arith)
     by-memory false is e = by-reading (ltb-false memory most-parts is) (reading source) refl e
@@ -122,23 +125,29 @@ denied memory source f q all = by-memory (ltb memory most-parts) refl all
   where
     same : (g : Fault) (r : ℕ) → refused g r ≡ refused f q → Denied memory source g r → Denied memory source f q
     same g r e d = let a : g ≡ f = cc in let b : r ≡ q = cc in subst (λ x. Denied memory source x q) a (subst (λ x. Denied memory source g x) b d)
+
     room-and : most-parts ≤ memory → Passes source → ⊥
     room-and room h = not-passed memory source f q room all h
+
     grammatically : most-parts ≤ memory → (us : List Placed) → reading source ≡ texts.read us → (g : grammar.Fault) (r : ℕ) → parse (length source) opening us ≡ parsing.refused g r → Denied memory source (Grammar g) r
     grammatically room us read NotAllowed r is =
         (room, room-and room, λ ts e. subst (λ l. Misplaced l (length source) r) (same-read us ts (sym read ∙ e)) (misplaced us (length source) r (parse-stuck (length source) opening us r is)))
     grammatically room us read TooDeep r is =
         (room, room-and room, λ ts e. subst (λ l. Nested l r) (same-read us ts (sym read ∙ e)) (nested us r (parse-deep (length source) opening us r refl is)))
     grammatically room us read MemoryShort r is = absurd (no-memory (length source) opening us r is)
+
     by-modes : most-parts ≤ memory → (p : Program) (us : List Placed) (v : declarations.Verdict) → after-declaring v p us ≡ refused f q → Denied memory source f q
     by-modes room p us None e = absurd (unlike p us f q e)
     by-modes room p us (Some x) e = same (Modes (x .0)) (x .1) e (room, room-and room)
+
     by-grammar : most-parts ≤ memory → (us : List Placed) → reading source ≡ texts.read us → (v : parsing.Verdict) → parse (length source) opening us ≡ v → after-parsing v us ≡ refused f q → Denied memory source f q
     by-grammar room us read (parsing.refused g r) is e = same (Grammar g) r e (grammatically room us read g r is)
     by-grammar room us read (parsing.passed p) is e = by-modes room p us _ e
+
     by-reading : most-parts ≤ memory → (v : texts.Reading) → reading source ≡ v → after-reading v (length source) ≡ refused f q → Denied memory source f q
     by-reading room (texts.refused g r) is e = same (Text g) r e (room, room-and room)
     by-reading room (texts.read us) is e = by-grammar room us is (parse (length source) opening us) refl e
+
     by-memory : (b : Bool) → ltb memory most-parts ≡ b → cond b (refused (Grammar MemoryShort) 0) (after-reading (reading source) (length source)) ≡ refused f q → Denied memory source f q
     by-memory true is e = same (Grammar MemoryShort) 0 e (ltb-true memory most-parts is, refl)
     by-memory false is e = by-reading (ltb-false memory most-parts is) (reading source) refl e

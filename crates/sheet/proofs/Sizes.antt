@@ -33,11 +33,11 @@ mutual
   counted-one : (s : Stmt) → counted (flat s) ≡ size-of s
   counted-one (assign p n e) = omega (arith, counted-both (source e) (store ∷ []), no-source e)
   counted-one (choose p e t) =
-    omega (arith, counted-both (postfix e) (test p ∷ (flats t ++ join ∷ [])), no-statement e, counted-both (flats t) (join ∷ []), counted-all t)
+      omega (arith, counted-both (postfix e) (test p ∷ (flats t ++ join ∷ [])), no-statement e, counted-both (flats t) (join ∷ []), counted-all t)
   counted-one (choose-else p e t u) =
-    omega (arith, counted-both (postfix e) (test p ∷ (flats t ++ (otherwise ∷ (flats u ++ join ∷ [])))), no-statement e, counted-both (flats t) (otherwise ∷ (flats u ++ join ∷ [])), counted-both (flats u) (join ∷ []), counted-all t, counted-all u)
+      omega (arith, counted-both (postfix e) (test p ∷ (flats t ++ (otherwise ∷ (flats u ++ join ∷ [])))), no-statement e, counted-both (flats t) (otherwise ∷ (flats u ++ join ∷ [])), counted-both (flats u) (join ∷ []), counted-all t, counted-all u)
   counted-one (loop p e t) =
-    omega (arith, counted-both (postfix e) (enter p ∷ (flats t ++ repeat ∷ [])), no-statement e, counted-both (flats t) (repeat ∷ []), counted-all t)
+      omega (arith, counted-both (postfix e) (enter p ∷ (flats t ++ repeat ∷ [])), no-statement e, counted-both (flats t) (repeat ∷ []), counted-all t)
   counted-one (input p q n) = refl
   counted-one (output p e) = omega (arith, counted-both (postfix e) (write p ∷ []), no-statement e)
 

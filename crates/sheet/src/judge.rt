@@ -26,7 +26,11 @@ const MOST_PARTS: usize = 16;
 
 /// Passes a source as a sheet, or refuses it. `memory` is lent for the open parts: what it holds afterwards is free, and
 /// decides nothing.
-pub fn judge_source<'a>(heap: Global, source: &'a [u8], memory: &mut [Part]) -> Result<Sheet<'a>, JudgeError>
+pub fn judge_source<'a>(
+    heap: Global,
+    source: &'a [u8],
+    memory: &mut [Part],
+) -> Result<Sheet<'a>, JudgeError>
     ensures defined { λ r. ⌜ Answers (judging (length (now (memory .entry))) (now (source .entry))) r ⌝ }
     ensures lawful { λ r. ⌜ Lawful (length (now (memory .entry))) (now (source .entry)) r ⌝ }
 {
@@ -34,7 +38,11 @@ pub fn judge_source<'a>(heap: Global, source: &'a [u8], memory: &mut [Part]) -> 
 }
 
 /// The same, without the law: phase after phase.
-fn judge_phases<'a>(heap: Global, source: &'a [u8], memory: &mut [Part]) -> Result<Sheet<'a>, JudgeError>
+fn judge_phases<'a>(
+    heap: Global,
+    source: &'a [u8],
+    memory: &mut [Part],
+) -> Result<Sheet<'a>, JudgeError>
     ensures { λ r. ⌜ Answers (judging (length (now (memory .entry))) (now (source .entry))) r ⌝ }
 {
     if memory.len() < MOST_PARTS {
@@ -42,12 +50,18 @@ fn judge_phases<'a>(heap: Global, source: &'a [u8], memory: &mut [Part]) -> Resu
     }
     let tokens = match read_tokens(heap, source) {
         Ok(tokens) => tokens,
-        Err(ReadError::Refused(refusal)) => return Err(refused(Fault::Text(refusal.fault), refusal.place)),
+        Err(ReadError::Refused(refusal)) => return Err(refused(
+            Fault::Text(refusal.fault),
+            refusal.place,
+        )),
         Err(ReadError::Memory) => return Err(JudgeError::Memory),
     };
     let outline = match parse_tokens(heap, tokens.as_slice(), source.len(), memory) {
         Ok(outline) => outline,
-        Err(ParseError::Refused(refusal)) => return Err(refused(Fault::Grammar(refusal.fault), refusal.place)),
+        Err(ParseError::Refused(refusal)) => return Err(refused(
+            Fault::Grammar(refusal.fault),
+            refusal.place,
+        )),
         Err(ParseError::Memory) => return Err(JudgeError::Memory),
     };
     match check_outline(heap, &outline) {
@@ -71,7 +85,10 @@ fn check_outline(heap: Global, outline: &Outline<'_>) -> Result<(), JudgeError>
     }
     match check_statements(heap, outline.declared.as_slice(), outline.code.as_slice()) {
         Ok(()) => Ok(()),
-        Err(ModeError::Refused(refusal)) => Err(refused(Fault::Modes(refusal.fault), refusal.place)),
+        Err(ModeError::Refused(refusal)) => Err(refused(
+            Fault::Modes(refusal.fault),
+            refusal.place,
+        )),
         Err(ModeError::Memory) => Err(JudgeError::Memory),
     }
 }

@@ -9,7 +9,6 @@ pub mod fault;
 mod judge;
 
 pub use judge::judge_source;
-
 use outline::Outline;
 use tokens::token::Token;
 

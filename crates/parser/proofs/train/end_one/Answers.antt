@@ -14,8 +14,8 @@ pub returns-in-Next : need.returns-in-Next
 returns-in-Next c = record {
   leads = λ all ds w.
       let b = behind w (c .in-Some .ensures tt .1) (c .closes .ensures) in
-          let k = as-closing (c .closes .result) (w .parts) (c .top .result) _ (c .in-Next .ensures tt) (topped (c .args .parts .now) (w .parts) (c .top .result) (w .stacked) (c .top .ensures)) in
-          after-next k b (w .stacked) (w .code);
+      let k = as-closing (c .closes .result) (w .parts) (c .top .result) _ (c .in-Next .ensures tt) (topped (c .args .parts .now) (w .parts) (c .top .result) (w .stacked) (c .top .ensures)) in
+      after-next k b (w .stacked) (w .code);
   further = (c .in-Some .ensures tt .0, omega arith);
   few = c .pre .few;
   kept = refl;
@@ -64,8 +64,8 @@ pub returns-in-Finish : need.returns-in-Finish
 returns-in-Finish c = record {
   leads = λ all ds w.
       let b = behind w (c .in-Some .ensures tt .1) (c .closes .ensures) in
-          let k = as-closing (c .closes .result) (w .parts) (c .top .result) _ (c .in-Finish .ensures tt) (topped (c .args .parts .now) (w .parts) (c .top .result) (w .stacked) (c .top .ensures)) in
-          after-finish k b (w .code);
+      let k = as-closing (c .closes .result) (w .parts) (c .top .result) _ (c .in-Finish .ensures tt) (topped (c .args .parts .now) (w .parts) (c .top .result) (w .stacked) (c .top .ensures)) in
+      after-finish k b (w .code);
   further = (c .in-Some .ensures tt .0, omega arith);
   few = c .pre .few;
   kept = refl;
@@ -75,8 +75,8 @@ pub returns-in-Wrong : need.returns-in-Wrong
 returns-in-Wrong c = rw (c .refuse-in-Wrong .ensures) (record {
   leads = λ all ds w.
       let b = behind w (c .in-Some .ensures tt .1) (c .closes .ensures) in
-          let k = as-closing (c .closes .result) (w .parts) (c .top .result) _ (c .in-Wrong .ensures tt) (topped (c .args .parts .now) (w .parts) (c .top .result) (w .stacked) (c .top .ensures)) in
-          after-wrong k b;
+      let k = as-closing (c .closes .result) (w .parts) (c .top .result) _ (c .in-Wrong .ensures tt) (topped (c .args .parts .now) (w .parts) (c .top .result) (w .stacked) (c .top .ensures)) in
+      after-wrong k b;
   further = tt;
   few = c .pre .few;
   kept = refl;
