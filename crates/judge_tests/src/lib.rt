@@ -357,7 +357,7 @@ mod tests {
         match judge_source(rt.alloc(), source, &mut many) {
             Ok(sheet) => {
                 check_eq(sheet.statements(), 2)?;
-                check_eq(sheet.tokens().len(), 13)?;
+                check_eq(sheet.tokens().len(), 12)?;
                 check_eq(sheet.declared().len(), 1)
             }
             Err(_) => Err(Fail::new("refused")),
