@@ -7,13 +7,13 @@ use native.Mathlib.Nat.{add-zero}
 use native.Mathlib.Omega.{arith}
 use lib.Dec.{ltb}
 use lib.ListN.{length}
-use Rattle.grammar.specs.Machine.{Part, Point, loop-part, then-part, State, complete, for-assign, for-choose, for-loop, for-output, fresh, input-name, inside, is-sign, is-word, operand, target, wanted, at-point}
+use Rattle.grammar.specs.Machine.{Part, Point, Purpose, begin-statement, loop-part, then-part, State, complete, for-assign, for-choose, for-loop, for-output, fresh, input-name, inside, is-sign, is-word, operand, target, wanted, at-point}
 use Rattle.grammar.specs.Tree.{Declared, Expr, Stmt, assign, input, output, variable}
 use Rattle.outline.specs.Code as code
 use Rattle.outline.specs.Code.{Op, flat, postfix, source}
-use Rattle.parser.specs.Parsing.{Verdict, deep, met, most-parts, parse, refused, parentheses-at, part-at}
+use Rattle.parser.specs.Parsing.{Verdict, begun, deep, met, most-parts, parse, refused, parentheses-at, part-at}
 use Rattle.parser.specs.Progress.{Around, Done, Fits, NoPlus, NoSum, Refuses, has, rest, wants}
-use Rattle.parser.specs.Statements.{Ended, EndedNot, Entered, EnteredNot, Headed, HeadedNot, Sourced, SourcedNot, choice-lead, loop-lead}
+use Rattle.parser.specs.Statements.{BeginsNot, Ended, EndedNot, Entered, EnteredNot, Headed, HeadedNot, Parted, Sourced, SourcedNot, choice-lead, loop-lead}
 use Rattle.parser.specs.declared.fault.Fault.the-variants.{NotAllowed}
 use Rattle.parser.specs.declared.fault.ParseError.{ParseError}
 use Rattle.parser.specs.declared.fault.ParseError.the-variants.{Refused, Memory}
@@ -127,3 +127,39 @@ module _ (end : ℕ) (ts : List Token) (at : ℕ) (p : ℕ) where
   repetition-refused (Refused x) bad = λ ds parts before few.
       bad (record { declared = ds; parts = parts; before = before; purpose = for-loop p }) (record { parentheses = refl; parts = omega arith }) refl
   repetition-refused Memory bad = tt
+
+-- the first token of a statement
+module _ (end at : ℕ) (ts : List Token) (t : Placed) (here : rest ts at ≡ t ∷ rest ts (at + 1)) (pt : Point) (opens : (ds : List Declared) (parts : List Part) (before : List Stmt) → begin-statement ds parts before (t .place) (t .kind) ≡ Some (inside ds parts before pt)) (none : parentheses-at pt ≡ 0) where
+  first-token : (ds : List Declared) (parts : List Part) (before : List Stmt) → length parts + part-at pt ≤ most-parts → parse end (inside ds parts before wanted) (rest ts at) ≡ parse end (inside ds parts before pt) (rest ts (at + 1))
+  first-token ds parts before few =
+      ap (parse end (inside ds parts before wanted)) here ∙ taken (t .place) _ (inside ds parts before pt) (λ next. parse end next (rest ts (at + 1))) (opens ds parts before) (calm parts pt none few)
+
+  pub begun-simple : part-at pt ≡ 0 → {next : ℕ} {was now : List Op} → Ended end (λ ds parts before. inside ds parts before pt) ts (at + 1) next was now → Ended end (λ ds parts before. inside ds parts before wanted) ts at next was now
+  begun-simple simple d = record {
+    statement = d .statement;
+    further = omega (arith, d .further);
+    reads = λ ds parts before few. first-token ds parts before (omega arith) ∙ d .reads ds parts before few;
+    code = d .code;
+  }
+
+  pub begun-simple-refused : part-at pt ≡ 0 → (opened : ℕ) → opened ≤ most-parts → (e : ParseError) → EndedNot end (λ ds parts before. inside ds parts before pt) (rest ts (at + 1)) e → BeginsNot end opened (rest ts at) e
+  begun-simple-refused simple opened few (Refused x) bad = λ ds parts before long.
+      first-token ds parts before (omega arith) ∙ bad ds parts before (omega arith)
+  begun-simple-refused simple opened few Memory bad = tt
+
+-- and of one with a part
+module _ (end at : ℕ) (ts : List Token) (t : Placed) (here : rest ts at ≡ t ∷ rest ts (at + 1)) (u : Purpose) (opens : (ds : List Declared) (parts : List Part) (before : List Stmt) → begin-statement ds parts before (t .place) (t .kind) ≡ Some (inside ds parts before (operand u fresh []))) (one : begun u ≡ 1) (opened : ℕ) (few : opened < most-parts) where
+  pub begun-part : {part : ℕ → Expr → List Stmt → Part} {lead : ℕ → Expr → List Op} (p : ℕ) {next : ℕ} {was now : List Op} → Headed end u part lead p ts (at + 1) next was now → Parted end opened part lead ts at next was now
+  begun-part p d = record {
+    place = p;
+    tree = d .tree;
+    further = omega (arith, d .further);
+    few = few;
+    reads = λ ds parts before long. first-token end at ts t here (operand u fresh []) opens refl ds parts before (omega arith) ∙ d .reads ds parts before (omega arith);
+    code = d .code;
+  }
+
+  pub begun-part-refused : (e : ParseError) → HeadedNot end u (rest ts (at + 1)) e → BeginsNot end opened (rest ts at) e
+  begun-part-refused (Refused x) bad = λ ds parts before long.
+      first-token end at ts t here (operand u fresh []) opens refl ds parts before (omega arith) ∙ bad ds parts before (omega arith)
+  begun-part-refused Memory bad = tt
