@@ -1,4 +1,6 @@
 // The grammar of check sheets.
+#![tactic(auto)]
+
 ghost use Rattle.grammar.specs.Law.{Grammatical};
 
 /// The reading machine and the grammar agree.

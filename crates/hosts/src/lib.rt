@@ -1,4 +1,6 @@
 // Hosts: what supplies a run's readings and takes its verdicts.
+#![tactic(auto)]
+
 pub mod copying;
 pub mod exchange;
 mod host;

@@ -1,4 +1,6 @@
 // Reads the text of a sheet on standard input, and prints whether it passes.
+#![tactic(auto)]
+
 use judge_report::report;
 use std::io;
 use std::io::Read;

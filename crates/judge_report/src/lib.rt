@@ -1,4 +1,6 @@
 // The report of a judgement, as text.
+#![tactic(auto)]
+
 ghost use Rattle.std.specs.Prelude.{◌≡◌, ◌++◌, map, IfOk, string_bytes, codes, decimal, OnOk};
 ghost use Rattle.grammar.specs.Tree.{Train};
 ghost use Rattle.judge_report.specs.Report.{name_line, name_lines, primitive_text, refs_text, report_of};

@@ -1,5 +1,6 @@
 // Examples of judgements: every refusal at its edge, and pairs of faults whose order is fixed. They stand apart, since a
 // crate with tests is proved twice.
+#![tactic(auto)]
 
 #[cfg(test)]
 mod tests {

@@ -1,4 +1,6 @@
 // Whether the modes of a sheet stand: its declared names, and its statements in flat form.
+#![tactic(auto)]
+
 ghost use Rattle.modes.specs.Law.{Modal};
 
 mod declaring;

@@ -1,4 +1,6 @@
 // A sheet in outline: its declared names, and its statements in flat form, with names as the source has them.
+#![tactic(auto)]
+
 pub mod code;
 pub mod declared;
 

@@ -1,4 +1,6 @@
 // From tokens to the flat form of a sheet, or to the first refusal.
+#![tactic(auto)]
+
 mod declaration;
 mod expression;
 pub mod fault;

@@ -1,4 +1,6 @@
 // Number rules: how a sheet's numbers are added and multiplied, and how large they may be.
+#![tactic(auto)]
+
 mod capping;
 pub mod cause;
 mod exact;

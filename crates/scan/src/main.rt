@@ -1,4 +1,6 @@
 // Reads the text of a sheet on standard input, and prints what it consists of.
+#![tactic(auto)]
+
 use scan_report::report;
 use std::io;
 use std::io::Read;

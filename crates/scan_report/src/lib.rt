@@ -1,4 +1,6 @@
 // The report on the tokens of a source, as text.
+#![tactic(auto)]
+
 ghost use Rattle.std.specs.Prelude.{◌≡◌, ◌++◌, map, IfOk, string_bytes, OnOk};
 ghost use Rattle.scan_report.specs.Report.{line, report_of};
 ghost use Rattle.tokens.specs.Reading.{read, reading, refused as refused-for};

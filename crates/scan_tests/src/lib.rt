@@ -1,4 +1,5 @@
 // Examples of reading, at the edges of every limit. They stand apart, since a crate with tests is proved twice.
+#![tactic(auto)]
 
 #[cfg(test)]
 mod tests {

@@ -1,4 +1,6 @@
 // The judge, and the sheets that it passes.
+#![tactic(auto)]
+
 ghost use Rattle.outline.specs.Code.{ops};
 ghost use Rattle.outline.specs.Names.{names};
 ghost use Rattle.sheet.specs.Correct.{Correct};

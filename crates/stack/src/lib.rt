@@ -1,5 +1,7 @@
 // A bounded stack over memory that the caller lends, for every type that can be copied.
 // Its type stands here, apart from the methods, since their contracts cite definitions that name the type.
+#![tactic(auto)]
+
 ghost use Rattle.std.specs.Prelude.{◌≤◌, length};
 
 mod methods;

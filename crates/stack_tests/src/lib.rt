@@ -1,4 +1,5 @@
 // Examples of a stack at its edges. They stand apart, since a crate with tests is proved twice.
+#![tactic(auto)]
 
 #[cfg(test)]
 mod tests {

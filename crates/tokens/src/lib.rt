@@ -1,4 +1,6 @@
 // From the bytes of a check sheet to its tokens, or to the first refusal.
+#![tactic(auto)]
+
 pub mod class;
 pub mod fault;
 mod kind;
