@@ -7,7 +7,7 @@ use Rattle.scan_report.proofs.accepted.Goals as goal
 
 pub loop-token-preserved : goal.loop-token-preserved
 loop-token-preserved c =
-    lines_more c.args.tokens.now c.loop-token.token-index _ _ c.loop-token.invariant _ _ c.loop-token-test.true c.in-ok-add-line.ensures
+    lines_more c.args.tokens.now c.loop-token.token-index _ _ c.loop-token.invariant _ _ c.loop-token-test.true c.in_ok-add_line.ensures
 
 pub returns-in-Ok : goal.returns-in-Ok
 returns-in-Ok c =

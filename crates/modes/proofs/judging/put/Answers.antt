@@ -7,5 +7,5 @@ use Rattle.modes.proofs.judging.put.Goals as goal
 
 pub returns : goal.returns
 returns c =
-    let items = chosen _ _ _ _ c.push.ensures.items (ap is_ok c.in-ok-push.was) in
+    let items = chosen _ _ _ _ c.push.ensures.items (ap is_ok c.in_ok-push.was) in
     ap gone (sym (pushed c.args.stack.now c.push.new.self c.args.top items))

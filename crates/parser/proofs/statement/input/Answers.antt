@@ -7,7 +7,7 @@ use Rattle.tokens.specs.Tokens.{kind_of}
 use Rattle.parser.proofs.Statements.{input_done}
 use Rattle.parser.proofs.statement.input.Goals as goal
 
-pub returns-in-ok-push : goal.returns-in-ok-push
-returns-in-ok-push c =
-    let pushed = chosen _ _ _ _ c.push.ensures.items (ap is_ok c.in-ok-push.was) in
+pub returns-in_ok-push : goal.returns-in_ok-push
+returns-in_ok-push c =
+    let pushed = chosen _ _ _ _ c.push.ensures.items (ap is_ok c.in_ok-push.was) in
     input_done c.args.place c.in-Some.token.place c.in-Name.name.now (c.in-Some.ensures.1 ∙ ap (λ x. record { place = c.in-Some.token.place; kind = kind_of x } ∷ rest c.args.tokens.now (c.args.at + 1)) c.in-Name.is) (pushed_ops c.args.code.now c.push.new.self _ pushed)

@@ -6,12 +6,12 @@ use Rattle.parser.proofs.Expressions.{pushed_ops}
 use Rattle.parser.proofs.Statements.{output_done, output_refused}
 use Rattle.parser.proofs.statement.output.Goals as goal
 
-pub returns-in-err-next : goal.returns-in-err-next
-returns-in-err-next c =
-    let p = err_from_is_err_and c.from-residual.result c.from-residual.ensures.1 in
-    rw (p.1, p.2) (output_refused c.args.end (rest c.args.tokens.now c.args.at) c.args.place c.in-err-next.field-0.0 c.in-err-next.ensures)
+pub returns-in_err-next : goal.returns-in_err-next
+returns-in_err-next c =
+    let p = err_from_is_err_and c.from_residual.result c.from_residual.ensures.1 in
+    rw (p.1, p.2) (output_refused c.args.end (rest c.args.tokens.now c.args.at) c.args.place c.in_err-next.field-0.0 c.in_err-next.ensures)
 
 pub returns : goal.returns
 returns c =
-    let pushed = chosen _ _ _ _ c.push.ensures.items (ap is_ok c.in-ok-push.was) in
-    output_done c.args.place c.in-ok-next.ensures (pushed_ops c.expression.new.code c.push.new.self _ pushed)
+    let pushed = chosen _ _ _ _ c.push.ensures.items (ap is_ok c.in_ok-push.was) in
+    output_done c.args.place c.in_ok-next.ensures (pushed_ops c.expression.new.code c.push.new.self _ pushed)

@@ -13,5 +13,5 @@ overflow-add-result c =
 
 pub returns-in-Some : goal.returns-in-Some
 returns-in-Some c =
-    let pushed = chosen _ _ _ _ c.push.ensures.items (ap is_ok c.in-ok-push.was) in
+    let pushed = chosen _ _ _ _ c.push.ensures.items (ap is_ok c.in_ok-push.was) in
     lone_done c.in-Some.place c.in-Some.name.now c.in-Some.ensures.0 c.in-Some.ensures.1 (pushed_ops c.args.code.now c.push.new.self _ pushed)

@@ -18,9 +18,9 @@ returns-in-Next c = record {
   kept = refl;
 }
 
-pub returns-in-ok-push : goal.returns-in-ok-push
-returns-in-ok-push c =
-    let pushed = chosen _ _ _ _ c.push.ensures.items (ap is_ok c.in-ok-push.was) in
+pub returns-in_ok-push : goal.returns-in_ok-push
+returns-in_ok-push c =
+    let pushed = chosen _ _ _ _ c.push.ensures.items (ap is_ok c.in_ok-push.was) in
     record {
       leads = λ all ds w.
           let b = behind w c.in-Some.ensures.1 c.closes.ensures in
@@ -31,9 +31,9 @@ returns-in-ok-push c =
       kept = c.push-in-Turn.ensures.kept ∙ c.pop.ensures.kept;
     }
 
-pub returns-in-ok-push-2 : goal.returns-in-ok-push-2
-returns-in-ok-push-2 c =
-    let pushed = chosen _ _ _ _ c.push-in-Join.ensures.items (ap is_ok c.in-ok-push-2.was) in
+pub returns-in_ok-push-2 : goal.returns-in_ok-push-2
+returns-in_ok-push-2 c =
+    let pushed = chosen _ _ _ _ c.push-in-Join.ensures.items (ap is_ok c.in_ok-push-2.was) in
     record {
       leads = λ all ds w.
           let b = behind w c.in-Some.ensures.1 c.closes.ensures in
@@ -44,9 +44,9 @@ returns-in-ok-push-2 c =
       kept = c.pop-in-Join.ensures.kept;
     }
 
-pub returns-in-ok-push-3 : goal.returns-in-ok-push-3
-returns-in-ok-push-3 c =
-    let pushed = chosen _ _ _ _ c.push-in-Repeat.ensures.items (ap is_ok c.in-ok-push-3.was) in
+pub returns-in_ok-push-3 : goal.returns-in_ok-push-3
+returns-in_ok-push-3 c =
+    let pushed = chosen _ _ _ _ c.push-in-Repeat.ensures.items (ap is_ok c.in_ok-push-3.was) in
     record {
       leads = λ all ds w.
           let b = behind w c.in-Some.ensures.1 c.closes.ensures in

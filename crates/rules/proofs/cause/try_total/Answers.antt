@@ -6,5 +6,5 @@ use Rattle.rules.proofs.cause.try_total.Goals as goal
 
 pub returns : goal.returns
 returns g c =
-    let is = c.ok-or.ensures.value ∙ ap (λ o. ok_or o Total) c.total.ensures in
+    let is = c.ok_or.ensures.value ∙ ap (λ o. ok_or o Total) c.total.ensures in
     record { defined = is; lawful = rw is (answers g.met.R.NumberRule.lawful.total Total c.args.a c.args.b) }

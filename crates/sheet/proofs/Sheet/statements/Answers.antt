@@ -5,4 +5,4 @@ use Rattle.sheet.proofs.Sizes.{sized}
 use Rattle.sheet.proofs.Sheet.statements.Goals as goal
 
 pub returns : goal.returns
-returns c = λ body e. c.count-statements.ensures ∙ ap (λ l. counted (map op_of l)) c.as-slice.ensures.value ∙ sized (code_in c.args.self.now) body e
+returns c = λ body e. c.count_statements.ensures ∙ ap (λ l. counted (map op_of l)) c.as_slice.ensures.value ∙ sized (code_in c.args.self.now) body e

@@ -4,7 +4,7 @@ use Rattle.sheet.proofs.ask.count_statements.Goals as goal
 
 pub loop-instruction-preserved : goal.loop-instruction-preserved
 loop-instruction-preserved c =
-    (omega (arith, c.counts-as-count.ensures.small), count_more c.args.code.now c.loop-instruction.instruction-index c.loop-instruction.count c.counts-as-count.result _ c.loop-instruction-test.true c.loop-instruction.invariant.1 c.counts-as-count.ensures.value)
+    (omega (arith, c.counts_as-count.ensures.small), count_more c.args.code.now c.loop-instruction.instruction-index c.loop-instruction.count c.counts_as-count.result _ c.loop-instruction-test.true c.loop-instruction.invariant.1 c.counts_as-count.ensures.value)
 
 pub returns : goal.returns
 returns c = count_all c.args.code.now c.loop-instruction.instruction-index c.loop-instruction.count c.loop-instruction-test.false c.loop-instruction.invariant.1

@@ -4,6 +4,6 @@ use Rattle.sheet.proofs.judge.judge_source.Goals as goal
 
 pub returns : goal.returns
 returns c = record {
-  defined = c.judge-phases.ensures;
-  lawful = proof.lawful (length c.args.memory.now) c.args.source.now c.judge-phases.result c.judge-phases.ensures;
+  defined = c.judge_phases.ensures;
+  lawful = proof.lawful (length c.args.memory.now) c.args.source.now c.judge_phases.result c.judge_phases.ensures;
 }

@@ -3,6 +3,6 @@ use Rattle.tokens.proofs.read.read_tokens.Goals as goal
 
 pub returns : goal.returns
 returns c = record {
-  defined = c.read-bytes.ensures;
-  lawful = proof.lawful c.args.source.now c.read-bytes.result c.read-bytes.ensures;
+  defined = c.read_bytes.ensures;
+  lawful = proof.lawful c.args.source.now c.read_bytes.result c.read_bytes.ensures;
 }

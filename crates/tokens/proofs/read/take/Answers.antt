@@ -15,13 +15,13 @@ advanced c = record {
   told = c.advance-step.ensures.step;
 }
 
-pub end-run-requires : goal.end-run-requires
-end-run-requires c = (move (advanced (goal.at.end-run-requires c).After-advance-step)).pending
+pub end_run-requires : goal.end_run-requires
+end_run-requires c = (move (advanced (goal.at.end_run-requires c).After-advance-step)).pending
 
-pub returns-in-err-end-run : goal.returns-in-err-end-run
-returns-in-err-end-run c =
-    let p = err_from_is_err_and c.from-residual.result c.from-residual.ensures.1 in
-    rw (p.1, p.2) (run_refused (advanced (goal.at.returns-in-err-end-run c).After-advance-step) _ _ _ c.in-err-end-run.ensures)
+pub returns-in_err-end_run : goal.returns-in_err-end_run
+returns-in_err-end_run c =
+    let p = err_from_is_err_and c.from_residual.result c.from_residual.ensures.1 in
+    rw (p.1, p.2) (run_refused (advanced (goal.at.returns-in_err-end_run c).After-advance-step) _ _ _ c.in_err-end_run.ensures)
 
 pub returns : goal.returns
-returns c = settled (advanced (goal.at.returns c).After-advance-step) _ c.in-ok-end-run.ensures c.settle.result _ c.settle.ensures
+returns c = settled (advanced (goal.at.returns c).After-advance-step) _ c.in_ok-end_run.ensures c.settle.result _ c.settle.ensures

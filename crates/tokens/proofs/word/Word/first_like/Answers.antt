@@ -6,4 +6,4 @@ use Rattle.tokens.proofs.word.Word.first_like.Goals as goal
 
 pub loop-word-preserved : goal.loop-word-preserved
 loop-word-preserved c =
-    passed c.args.run.now words c.loop-word.word-index Begin (omega arith) c.if-is-written.ensures ∙ c.loop-word.invariant
+    passed c.args.run.now words c.loop-word.word-index Begin (omega arith) c.if-is_written.ensures ∙ c.loop-word.invariant
