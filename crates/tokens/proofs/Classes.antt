@@ -1,9 +1,9 @@
 -- What a byte's class says of the byte.
-use Rattle.std.proofs.Common.{◌≡◌, ℕ, ◌≤◌, List, [], ◌∷◌, arith}
+use Rattle.std.proofs.Common.{◌≡◌, ℕ, ◌≤◌, [], ◌∷◌, arith}
 use Rattle.std.proofs.lemmas.Bool.Decides.{nat_tests}
 use Rattle.tokens.specs.Bytes.{class}
 use Rattle.tokens.specs.Words.{spelling}
-use Rattle.tokens.specs.declared.class.Class.TheVariants.{Blank, Capital, Small, Digit, Sign, Colon, Other}
+use Rattle.tokens.specs.declared.class.Class.TheVariants.{Capital, Digit, Sign, Colon}
 use Rattle.tokens.specs.declared.sign.Sign as signs
 
 pub capital_byte : (b : ℕ) → class b ≡ Capital → (65 ≤ b) × (b ≤ 90)

@@ -1,9 +1,9 @@
 -- The cut of a source is the one way to cut it.
-use Rattle.std.proofs.Common.{◌≡◌, ℕ, ◌<◌, Bool, true, false, List, [], ◌∷◌, ◌++◌, length, sym, refl, ap, ◌∙◌, subst, arith}
+use Rattle.std.proofs.Common.{◌≡◌, ℕ, Bool, true, false, List, [], ◌∷◌, ◌++◌, sym, refl, ap, ◌∙◌, subst, arith}
 use Rattle.tokens.specs.Bytes.{class}
 use Rattle.tokens.specs.Law.{Cuts, Ends, Forms, Only}
 use Rattle.tokens.specs.Machine.{class_in, grows, completes}
-use Rattle.tokens.specs.Pieces.{AllOf, Sort, blank, run, sign, colon, other, Piece, piece, attach, cut, join, next_class, widen}
+use Rattle.tokens.specs.Pieces.{Sort, blank, run, sign, colon, other, Piece, piece, attach, cut, join, next_class}
 use Rattle.tokens.specs.Words.{spelling}
 use Rattle.tokens.specs.declared.class.Class.{Class}
 use Rattle.tokens.specs.declared.class.Class.TheVariants.{Blank, Capital, Small, Digit, Sign, Colon, Other}

@@ -1,12 +1,12 @@
 -- The beginning and the end of a reading.
-use Rattle.std.proofs.Common.{◌≡◌, ℕ, ◌+◌, ◌<◌, ◌≤◌, ltb, List, [], ◌∷◌, ◌++◌, length, get_or, drop, Err, sym, refl, ap, ◌∙◌, append-nil, arith, length-drop}
+use Rattle.std.proofs.Common.{◌≡◌, ℕ, ◌+◌, ◌<◌, ◌≤◌, List, [], ◌∷◌, ◌++◌, length, get_or, drop, Err, sym, ap, ◌∙◌, append-nil, arith, length-drop}
 use Rattle.std.proofs.lemmas.List.{at_drop_more, drop_all}
 use Rattle.std.proofs.lemmas.Bool.{cond-true, cond-false, lt-ltb, le-ltb}
 use Rattle.tokens.specs.Answer.{Answers}
 use Rattle.tokens.specs.Bytes.{class}
 use Rattle.tokens.specs.Pieces.{cut, next_class}
 use Rattle.tokens.specs.Progress.{Moves, Open, Stands, resume, untold}
-use Rattle.tokens.specs.Reading.{Reading, read, refused, reading, walk, most_bytes}
+use Rattle.tokens.specs.Reading.{read, refused, reading, walk, most_bytes}
 use Rattle.tokens.specs.Tokens.{Placed}
 use Rattle.tokens.specs.declared.class.Class.TheVariants.{Blank}
 use Rattle.tokens.specs.declared.fault.Fault.TheVariants.{SourceTooLong}

@@ -1,5 +1,5 @@
 -- The walk over the pieces gives the right answer.
-use Rattle.std.proofs.Common.{◌≡◌, ℕ, ◌+◌, ◌<◌, ◌≤◌, Bool, true, false, cond, ltb, ◌⊎◌, List, [], ◌∷◌, ◌++◌, length, Ok, Err, Result, Vec, sym, refl, ap, ◌∙◌, subst, inl, inr, ⊎_elim, add-zero, arith}
+use Rattle.std.proofs.Common.{◌≡◌, ℕ, ◌+◌, ◌<◌, ◌≤◌, Bool, true, false, cond, ltb, ◌⊎◌, List, [], ◌∷◌, length, Ok, Err, Result, Vec, sym, refl, ap, subst, inl, inr, ⊎_elim, arith}
 use Rattle.std.proofs.lemmas.Bool.{cases_lt, ltb-true, ltb-false}
 use Rattle.std.specs.declared.alloc.Global.{Global}
 use Rattle.tokens.specs.Answer.{Answers}
@@ -7,7 +7,7 @@ use Rattle.tokens.specs.Faults.{number_of}
 use Rattle.tokens.specs.Law.{Among, Cuts, Faulty, Forms, Lawful, Right, Wrong, told, tokens_in}
 use Rattle.tokens.specs.Pieces.{Sort, blank, run, sign, colon, other, Piece, piece, bytes_of, cut}
 use Rattle.tokens.specs.Reading.{Meaning, gap, token, fault, Reading, read, refused, before, meaning, meet, reading, walk, weight, most_bytes, most_tokens}
-use Rattle.tokens.specs.Tokens.{Kind, Placed, placed}
+use Rattle.tokens.specs.Tokens.{Kind}
 use Rattle.tokens.specs.declared.fault.Fault.{Fault}
 use Rattle.tokens.specs.declared.fault.Fault.TheVariants.{SourceTooLong, NoToken, UnknownWord, NameTooLong, ConstantTooLarge, TooManyTokens}
 use Rattle.tokens.specs.declared.fault.ReadError.{ReadError}

@@ -1,12 +1,12 @@
 -- What one byte does to a reading: the reader's step, held to what the rest of the source reads as.
-use Rattle.std.proofs.Common.{◌≡◌, ℕ, zero, suc, ◌+◌, ◌-◌, ◌<◌, ◌≤◌, Bool, true, false, cond, List, [], ◌∷◌, ◌++◌, length, take, drop, Some, None, Option, sym, refl, ap, ◌∙◌, subst, append_assoc, add-zero, add_assoc, zero-add, arith, length-append}
+use Rattle.std.proofs.Common.{◌≡◌, ℕ, ◌+◌, ◌-◌, ◌<◌, ◌≤◌, Bool, true, false, cond, List, [], ◌∷◌, ◌++◌, length, take, drop, Some, None, Option, sym, refl, ap, ◌∙◌, subst, append_assoc, add-zero, arith, length-append}
 use Rattle.std.specs.List.{between}
 use Rattle.std.proofs.lemmas.List.{drop-drop, take_at}
 use Rattle.tokens.specs.Bytes.{class}
 use Rattle.tokens.specs.Machine.{class_in, grows, completes, begun, state_after, start_after, step_at}
 use Rattle.tokens.specs.Pieces.{AllOf, Piece, piece, run, sign, colon, join, attach, cut, next_class}
 use Rattle.tokens.specs.Progress.{Open, Pending, untold, found_meaning, ended_meaning}
-use Rattle.tokens.specs.Reading.{meaning, weight, meet, walk, refused}
+use Rattle.tokens.specs.Reading.{meaning, weight, meet, walk}
 use Rattle.tokens.specs.declared.class.Class.{Class}
 use Rattle.tokens.specs.declared.class.Class.TheVariants.{Blank, Capital, Small, Digit, Sign, Colon, Other}
 use Rattle.tokens.specs.declared.reader.Found.{Found}

@@ -1,5 +1,5 @@
 -- What taking one byte comes to: a run that has ended is told first, then what the byte completes itself.
-use Rattle.std.proofs.Common.{◌≡◌, ℕ, ◌+◌, ◌≤◌, List, length, drop, Ok, Err, Result, sym, refl, ap, ◌∙◌, subst}
+use Rattle.std.proofs.Common.{◌≡◌, ℕ, ◌+◌, ◌≤◌, List, length, drop, Ok, Err, Result, sym, ap, ◌∙◌}
 use Rattle.std.specs.List.{between}
 use Rattle.tokens.specs.Machine.{state_after, start_after, step_at}
 use Rattle.tokens.specs.Pieces.{cut, next_class}

@@ -1,5 +1,5 @@
 -- A source cut into pieces: blanks, tokens, and bytes that are part of no token.
-use Rattle.std.specs.Prelude.{◌≡◌, ℕ, Bool, true, false, cond, List, [], ◌∷◌}
+use Rattle.std.specs.Prelude.{◌≡◌, ℕ, Bool, true, false, List, [], ◌∷◌}
 use Rattle.tokens.specs.Bytes.{class}
 use Rattle.tokens.specs.Machine.{class_in, grows, completes}
 use Rattle.tokens.specs.declared.class.Class.{Class}

@@ -1,6 +1,6 @@
 -- What a source reads as: its tokens with their places, or the one refusal.
-use Rattle.std.specs.Prelude.{ℕ, ◌+◌, ◌-◌, ◌*◌, Bool, cond, ◌&&◌, List, [], ◌∷◌, length, Some, None, Option, nat_le, nat_lt}
-use Rattle.tokens.specs.Pieces.{Sort, blank, run, sign, colon, other, Piece, piece, bytes_of, cut}
+use Rattle.std.specs.Prelude.{ℕ, ◌+◌, ◌-◌, ◌*◌, cond, ◌&&◌, List, [], ◌∷◌, length, Some, None, Option, nat_le, nat_lt}
+use Rattle.tokens.specs.Pieces.{blank, run, sign, colon, other, Piece, piece, bytes_of, cut}
 use Rattle.tokens.specs.Tokens.{Kind, Placed}
 use Rattle.tokens.specs.Words.{word_of}
 use Rattle.tokens.specs.declared.fault.Fault.{Fault}

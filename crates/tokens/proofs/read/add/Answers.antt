@@ -1,4 +1,4 @@
-use Rattle.std.proofs.Common.{is_ok, sym, ap, ◌∙◌, subst, arith, rules}
+use Rattle.std.proofs.Common.{is_ok, ap, arith}
 use Rattle.std.proofs.ResultArms.{chosen}
 use Rattle.tokens.specs.Tokens.{placed}
 use Rattle.tokens.proofs.Resumed.{added, too_many, push_placed, length_placed}

@@ -1,7 +1,6 @@
 use Rattle.std.proofs.Common.{◌≡◌, ◌≤◌, length, ◌∙◌, subst, arith}
 use Rattle.std.proofs.lemmas.Result.{err_from_is_err_and}
 use Rattle.tokens.specs.Progress.{Stands}
-use Rattle.tokens.specs.Reading.{most_bytes}
 use Rattle.tokens.specs.Tokens.{placed}
 use Rattle.tokens.proofs.Ends.{next_byte, next_end, short, finished, stopped}
 use Rattle.tokens.proofs.read.read_bytes.Goals as goal
