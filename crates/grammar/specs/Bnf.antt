@@ -1,6 +1,6 @@
 -- The grammar, one constructor for each production: which tokens derive which tree.
 use Rattle.std.specs.Prelude.{ℕ, suc, true, false, List, [], ◌∷◌, ◌++◌}
-use Rattle.grammar.specs.Tree.{Primitive, int, bool, Operator, plus, times, equal, differ, Expr, variable, number, truth, binary, group, Stmt, assign, choose, choose_else, loop, input, output, Train, last, more, Declared, Program}
+use Rattle.grammar.specs.Tree.{Primitive, int, bool, plus, times, equal, differ, Expr, variable, number, truth, binary, group, Stmt, assign, choose, choose_else, loop, input, output, Train, last, more, Declared, Program}
 use Rattle.tokens.specs.Tokens.{Kind, word, sign, name, constant, Placed}
 use Rattle.tokens.specs.declared.sign.Sign.TheVariants.{Semicolon, Comma, Becomes, Plus, Star, Equals, Differs, Open, Close}
 use Rattle.tokens.specs.declared.word.Word.TheVariants.{Begin, End, Int, Bool, Ref, If, Then, Else, Fi, While, Do, Input, Output, True, False}

@@ -1,5 +1,5 @@
 -- What the machine does, in the words of the grammar.
-use Rattle.std.specs.Prelude.{◌≡◌, List, [], ◌∷◌, ◌++◌, Some, None}
+use Rattle.std.specs.Prelude.{◌≡◌, List, ◌++◌, Some, None}
 use Rattle.grammar.specs.Bnf.{Derives}
 use Rattle.grammar.specs.Machine.{State, opening, go, runs}
 use Rattle.grammar.specs.Tree.{Program}

@@ -1,5 +1,5 @@
 -- A machine that reads the tokens of a program one by one. Its state is the tree read so far, with a hole.
-use Rattle.std.specs.Prelude.{ℕ, ◌+◌, Bool, true, false, cond, ◌||◌, List, [], ◌∷◌, ◌++◌, length, Some, None, Option, ◌==◌}
+use Rattle.std.specs.Prelude.{ℕ, ◌+◌, Bool, true, false, cond, List, [], ◌∷◌, ◌++◌, Some, None, Option, ◌==◌}
 use Rattle.grammar.specs.Tree.{Primitive, int, bool, Operator, plus, times, equal, differ, Expr, variable, number, truth, binary, group, Stmt, assign, choose, choose_else, loop, input, output, Train, last, more, Declared, Program}
 use Rattle.grammar.specs.Bnf.{declare}
 use Rattle.tokens.specs.Tokens.{Kind, word, sign, name, constant, Placed}

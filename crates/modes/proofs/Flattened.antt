@@ -1,8 +1,8 @@
 -- The flat form of a tree is judged as the tree.
 use Rattle.std.proofs.Common.{◌≡◌, ℕ, List, [], ◌∷◌, ◌++◌, Some, None, Option, sym, refl, ap, ◌∙◌, append_assoc, append-nil}
-use Rattle.grammar.specs.Tree.{Primitive, bool, Operator, Expr, variable, number, truth, binary, group, Stmt, assign, choose, choose_else, loop, input, output, Train, last, more, Declared}
+use Rattle.grammar.specs.Tree.{Primitive, Operator, Expr, variable, number, truth, binary, group, Stmt, assign, choose, choose_else, loop, input, output, Train, last, more, Declared}
 use Rattle.modes.specs.Declaring.{Mode, Verdict, first, lookup}
-use Rattle.modes.specs.Flatly.{Entry, onto, worked_out, staying, known, step, going, flatly}
+use Rattle.modes.specs.Flatly.{Entry, onto, worked_out, staying, known, going, flatly}
 use Rattle.modes.specs.Judging.{Judgement, has, wrong, plain, onward, upon, named, result_of, suited, judge, condition, reaching, assigning, judge_statement, judge_train}
 use Rattle.outline.specs.Code.{Op, apply, store, test, otherwise, join, enter, repeat, write, postfix, source, flat, flats}
 

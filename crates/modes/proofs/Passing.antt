@@ -1,5 +1,5 @@
 -- How the loops pass one declared name, or one step, after the other.
-use Rattle.std.proofs.Common.{◌≡◌, ℕ, ◌+◌, ◌<◌, ◌≤◌, Bool, true, false, ◌||◌, List, ◌∷◌, map, length, get_or, take, drop, Some, None, Err, Decides, sym, ap, ◌∙◌, arith}
+use Rattle.std.proofs.Common.{◌≡◌, ℕ, ◌+◌, ◌<◌, ◌≤◌, Bool, true, false, ◌||◌, List, ◌∷◌, map, length, get_or, take, drop, Some, None, Err, sym, ap, ◌∙◌, arith}
 use Rattle.modes.specs.Answer.{Answers}
 use Rattle.modes.specs.Declaring.{Verdict, declaring_after, first, holds, lookup, mode_of, most_names, wrong_at}
 use Rattle.modes.specs.Flatly.{Entry, flatly, going, gone, step}
@@ -13,35 +13,30 @@ use Rattle.outline.specs.Code.{op_of}
 use Rattle.outline.specs.Names.{declared_of}
 use Rattle.outline.specs.declared.code.Instruction.{Instruction}
 use Rattle.outline.specs.declared.declared.Declared.{Declared}
-use Rattle.std.proofs.lemmas.Slice.Eq.{bytes_eq-Decides}
 use Rattle.std.proofs.lemmas.List.{drop_all, drop_more, length-map, map_more}
 use Rattle.std.proofs.lemmas.Bool.{cond-true, cond-false, le-ltb, lt-ltb, or_left}
-use Rattle.std.proofs.lemmas.Bool.Decides.{same_from_decides}
 use Rattle.std.specs.Str.{bytes_eq}
-
-tested : (xs ys : List ℕ) (r t : Bool) → Decides r (xs ≡ ys) → r ≡ t → bytes_eq xs ys ≡ t
-tested xs ys r t decides e = same_from_decides (bytes_eq xs ys) r (bytes_eq-Decides xs ys) decides ∙ e
 
 -- what is left of the names from a place on
 module _ (xs : List Declared) (i : ℕ) (d : Declared) (within : i < length xs) where
   left : map declared_of (drop i xs) ≡ declared_of (get_or xs i d) ∷ map declared_of (drop (i + 1) xs)
   left = ap (map declared_of) (drop_more xs i d within)
 
-  pub holds_here : (n : List ℕ) (r : Bool) → Decides r ((get_or xs i d).name.now ≡ n) → r ≡ true → holds (map declared_of (drop i xs)) n ≡ true
-  holds_here n r decides e =
-      ap (λ l. holds l n) left ∙ or_left _ _ (tested (get_or xs i d).name.now n r true decides e)
+  pub holds_here : (n : List ℕ) (r : Bool) → r ≡ bytes_eq (get_or xs i d).name.now n → r ≡ true → holds (map declared_of (drop i xs)) n ≡ true
+  holds_here n r tested e =
+      ap (λ l. holds l n) left ∙ or_left _ _ (sym tested ∙ e)
 
-  pub holds_past : (n : List ℕ) (r : Bool) → Decides r ((get_or xs i d).name.now ≡ n) → r ≡ false → holds (map declared_of (drop i xs)) n ≡ holds (map declared_of (drop (i + 1) xs)) n
-  holds_past n r decides e =
-      ap (λ l. holds l n) left ∙ ap (λ t. t || holds (map declared_of (drop (i + 1) xs)) n) (tested (get_or xs i d).name.now n r false decides e)
+  pub holds_past : (n : List ℕ) (r : Bool) → r ≡ bytes_eq (get_or xs i d).name.now n → r ≡ false → holds (map declared_of (drop i xs)) n ≡ holds (map declared_of (drop (i + 1) xs)) n
+  holds_past n r tested e =
+      ap (λ l. holds l n) left ∙ ap (λ t. t || holds (map declared_of (drop (i + 1) xs)) n) (sym tested ∙ e)
 
-  pub lookup_here : (n : List ℕ) (r : Bool) → Decides r ((get_or xs i d).name.now ≡ n) → r ≡ true → lookup (map declared_of (drop i xs)) n ≡ Some (mode_of (declared_of (get_or xs i d)))
-  lookup_here n r decides e =
-      ap (λ l. lookup l n) left ∙ cond-true _ _ _ (tested (get_or xs i d).name.now n r true decides e)
+  pub lookup_here : (n : List ℕ) (r : Bool) → r ≡ bytes_eq (get_or xs i d).name.now n → r ≡ true → lookup (map declared_of (drop i xs)) n ≡ Some (mode_of (declared_of (get_or xs i d)))
+  lookup_here n r tested e =
+      ap (λ l. lookup l n) left ∙ cond-true _ _ _ (sym tested ∙ e)
 
-  pub lookup_past : (n : List ℕ) (r : Bool) → Decides r ((get_or xs i d).name.now ≡ n) → r ≡ false → lookup (map declared_of (drop i xs)) n ≡ lookup (map declared_of (drop (i + 1) xs)) n
-  lookup_past n r decides e =
-      ap (λ l. lookup l n) left ∙ cond-false _ _ _ (tested (get_or xs i d).name.now n r false decides e)
+  pub lookup_past : (n : List ℕ) (r : Bool) → r ≡ bytes_eq (get_or xs i d).name.now n → r ≡ false → lookup (map declared_of (drop i xs)) n ≡ lookup (map declared_of (drop (i + 1) xs)) n
+  lookup_past n r tested e =
+      ap (λ l. lookup l n) left ∙ cond-false _ _ _ (sym tested ∙ e)
 
   declaring_here : declaring_after (map declared_of (take i xs)) (map declared_of (drop i xs)) ≡ first (wrong_at (map declared_of (take i xs)) (declared_of (get_or xs i d))) (declaring_after (map declared_of (take (i + 1) xs)) (map declared_of (drop (i + 1) xs)))
   declaring_here =

@@ -1,7 +1,5 @@
-use Rattle.std.proofs.Common.{◌++◌, map, ap, ◌∙◌, rules}
-use Rattle.scan_report.specs.Report.{lines}
+use Rattle.std.proofs.Common.{◌∙◌}
 use Rattle.std.proofs.lemmas.List.{length-map}
-use Rattle.tokens.specs.Tokens.{token_of}
 use Rattle.scan_report.proofs.Lines.{lines_more, lines_all}
 use Rattle.scan_report.proofs.accepted.Goals as goal
 

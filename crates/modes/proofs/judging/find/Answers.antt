@@ -5,10 +5,10 @@ use Rattle.modes.proofs.Passing.{lookup_end, lookup_here, lookup_past}
 use Rattle.modes.proofs.judging.find.Goals as goal
 
 pub returns-then-eq : goal.returns-then-eq
-returns-then-eq c = (ap (named c.args.place) (sym c.loop-one.invariant ∙ lookup_here c.args.declared.now c.loop-one.one_Index _ c.loop-one-test.true _ c.eq.result c.eq.ensures c.if-eq.true), refl)
+returns-then-eq c = (ap (named c.args.place) (sym c.loop-one.invariant ∙ lookup_here c.args.declared.now c.loop-one.one-index _ c.loop-one-test.true _ c.eq.result c.eq.ensures c.if-eq.true), refl)
 
 pub loop-one-preserved : goal.loop-one-preserved
-loop-one-preserved c = sym (lookup_past c.args.declared.now c.loop-one.one_Index _ c.loop-one-test.true _ c.eq.result c.eq.ensures c.if-eq.false) ∙ c.loop-one.invariant
+loop-one-preserved c = sym (lookup_past c.args.declared.now c.loop-one.one-index _ c.loop-one-test.true _ c.eq.result c.eq.ensures c.if-eq.false) ∙ c.loop-one.invariant
 
 pub returns : goal.returns
-returns c = rw c.refused.ensures (ap (named c.args.place) (sym c.loop-one.invariant ∙ lookup_end c.args.declared.now c.loop-one.one_Index c.args.name.now c.loop-one-test.false))
+returns c = rw c.refused.ensures (ap (named c.args.place) (sym c.loop-one.invariant ∙ lookup_end c.args.declared.now c.loop-one.one-index c.args.name.now c.loop-one-test.false))
