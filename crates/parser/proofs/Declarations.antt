@@ -1,16 +1,16 @@
 -- Declared names, one after the other.
-use Rattle.std.proofs.Common.{◌≡◌, ℕ, ◌+◌, ◌<◌, ◌≤◌, true, List, [], ◌∷◌, ◌++◌, map, length, vec_items, Vec, sym, refl, ap, ◌∙◌, subst, arith}
+use Rattle.std.proofs.Common.{◌≡◌, ℕ, ◌+◌, true, List, [], ◌∷◌, ◌++◌, map, vec_items, Vec, sym, ap, ◌∙◌, arith}
 use Rattle.grammar.specs.Bnf.{declare}
 use Rattle.grammar.specs.Machine.{between, is_sign, named, naming}
 use Rattle.grammar.specs.Tree as tree
-use Rattle.outline.specs.Names.{declared_of, names, primitive_of}
+use Rattle.outline.specs.Names.{declared_of, names}
 use Rattle.outline.specs.declared.declared.Declared.{Declared}
 use Rattle.std.proofs.lemmas.List.{map_push}
 use Rattle.std.specs.declared.alloc.Global.{Global}
-use Rattle.tokens.specs.Tokens.{Kind, Placed, name, sign, kind_of}
+use Rattle.tokens.specs.Tokens.{Placed, name}
 use Rattle.tokens.specs.declared.sign.Sign.TheVariants.{Comma, Semicolon}
 use Rattle.tokens.specs.declared.token.Token.{Token}
-use Rattle.parser.specs.Parsing.{met, parse}
+use Rattle.parser.specs.Parsing.{parse}
 use Rattle.parser.specs.Progress.{rest}
 use Rattle.parser.proofs.Expressions.{sign_is}
 

@@ -11,7 +11,7 @@ use Rattle.parser.specs.declared.fault.Fault.TheVariants.{NotAllowed}
 use Rattle.parser.specs.declared.fault.ParseError.{ParseError}
 use Rattle.parser.specs.declared.fault.ParseError.TheVariants.{Refused, Memory}
 use Rattle.std.proofs.lemmas.List.{drop-drop, map_push}
-use Rattle.std.proofs.lemmas.Bool.{cond-true, cond-false, le-ltb, lt-ltb, or_from, or_left, or_right}
+use Rattle.std.proofs.lemmas.Bool.{cond-false, le-ltb, or_from}
 use Rattle.std.specs.declared.alloc.Global.{Global}
 use Rattle.tokens.specs.Tokens.{Kind, sign, Placed, kind_of, token_of}
 use Rattle.tokens.specs.declared.sign.Sign as signs

@@ -1,5 +1,5 @@
 -- The tokens from an index on.
-use Rattle.std.proofs.Common.{◌≡◌, ℕ, ◌+◌, ◌<◌, ◌≤◌, List, [], ◌∷◌, map, length, get_or, drop, sym, ap, ◌∙◌}
+use Rattle.std.proofs.Common.{◌≡◌, ℕ, ◌+◌, ◌<◌, ◌≤◌, List, [], ◌∷◌, map, length, get_or, sym, ap, ◌∙◌}
 use Rattle.parser.specs.Progress.{rest}
 use Rattle.std.proofs.lemmas.List.{at_drop_more, at_drop_all, drop-map}
 use Rattle.tokens.specs.Tokens.{token_of}

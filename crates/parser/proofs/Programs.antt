@@ -1,9 +1,8 @@
 -- A program from its `begin` on.
-use Rattle.std.proofs.Common.{◌≡◌, ℕ, true, List, [], ◌∷◌, map, Err, sym, refl, ap, ◌∙◌, subst, arith}
+use Rattle.std.proofs.Common.{◌≡◌, ℕ, true, List, [], ◌∷◌, map, Err, sym, ap, ◌∙◌, arith}
 use Rattle.grammar.specs.Machine.{inside, is_word, moding, opening, wanted}
 use Rattle.grammar.specs.Tree.{Declared}
-use Rattle.outline.specs.Code.{Op, ops}
-use Rattle.outline.specs.Names.{names}
+use Rattle.outline.specs.Code.{Op}
 use Rattle.tokens.specs.Tokens.{Kind, Placed, token_of, word}
 use Rattle.tokens.specs.declared.token.Token.{Token}
 use Rattle.tokens.specs.declared.word.Word as words

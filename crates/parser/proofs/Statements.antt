@@ -1,13 +1,12 @@
 -- What the machine does at the tokens of a statement, held to what the parser does there.
-use Rattle.std.proofs.Common.{◌≡◌, ℕ, ◌+◌, ◌<◌, ◌≤◌, Bool, true, false, ◌||◌, ltb, List, [], ◌∷◌, ◌++◌, length, Some, None, Option, sym, refl, ap, ◌∙◌, subst, append_assoc, add-zero, arith}
-use Rattle.grammar.specs.Machine.{Part, Point, Purpose, begin_statement, loop_part, then_part, State, complete, for_assign, for_choose, for_loop, for_output, fresh, input_name, inside, is_sign, is_word, operand, target, wanted, at_point}
+use Rattle.std.proofs.Common.{◌≡◌, ℕ, ◌+◌, ◌<◌, ◌≤◌, true, false, ◌||◌, ltb, List, [], ◌∷◌, ◌++◌, length, Some, refl, ap, ◌∙◌, append_assoc, arith}
+use Rattle.grammar.specs.Machine.{Part, Point, Purpose, begin_statement, loop_part, then_part, State, complete, for_assign, for_choose, for_loop, for_output, fresh, input_name, inside, is_sign, operand, target, wanted, at_point}
 use Rattle.grammar.specs.Tree.{Declared, Expr, Stmt, assign, input, output, variable}
 use Rattle.outline.specs.Code as code
 use Rattle.outline.specs.Code.{Op, flat, postfix, source}
-use Rattle.parser.specs.Parsing.{Verdict, begun, deep, met, most_parts, parse, refused, parentheses_at, part_at}
-use Rattle.parser.specs.Progress.{Around, Done, Fits, NoPlus, NoSum, Refuses, has, rest, wants}
+use Rattle.parser.specs.Parsing.{begun, deep, most_parts, parse, parentheses_at, part_at}
+use Rattle.parser.specs.Progress.{Done, NoPlus, NoSum, Refuses, has, rest, wants}
 use Rattle.parser.specs.Statements.{BeginsNot, Ended, EndedNot, Entered, EnteredNot, Headed, HeadedNot, Parted, Sourced, SourcedNot, choice_lead, loop_lead}
-use Rattle.parser.specs.declared.fault.Fault.TheVariants.{NotAllowed}
 use Rattle.parser.specs.declared.fault.ParseError.{ParseError}
 use Rattle.parser.specs.declared.fault.ParseError.TheVariants.{Refused, Memory}
 use Rattle.std.proofs.lemmas.Bool.{le-ltb, or_from}

@@ -1,5 +1,5 @@
 -- Statements one after the other, and parts that open and close.
-use Rattle.std.proofs.Common.{◌≡◌, ℕ, ◌+◌, ◌<◌, ◌≤◌, Bool, true, false, ◌||◌, ltb, List, [], ◌∷◌, ◌++◌, length, Some, None, Ok, Err, Option, sym, refl, ap, ◌∙◌, subst, append_assoc, append-nil, arith, length-append}
+use Rattle.std.proofs.Common.{◌≡◌, ℕ, ◌+◌, ◌<◌, ◌≤◌, Bool, true, false, ◌||◌, ltb, List, [], ◌∷◌, ◌++◌, length, Some, None, Ok, Err, Option, sym, refl, ap, ◌∙◌, subst, append_assoc, append-nil, arith}
 use Rattle.grammar.specs.Machine as machine
 use Rattle.grammar.specs.Machine.{State, then_part, else_part, loop_part, inside, finished, wanted, complete, train_of, end_statement}
 use Rattle.grammar.specs.Tree.{Declared, Expr, Stmt, Train, choose, choose_else, loop}
@@ -9,7 +9,7 @@ use Rattle.stack.specs.declared.Stack.{Stack}
 use Rattle.stack.proofs.Counts.{held_fits}
 use Rattle.std.proofs.lemmas.List.{length_push, same_from_push}
 use Rattle.std.proofs.lemmas.Bool.{le-ltb, or_from}
-use Rattle.tokens.specs.Tokens.{Kind, Placed}
+use Rattle.tokens.specs.Tokens.{Placed}
 use Rattle.tokens.specs.declared.token.Token.{Token}
 use Rattle.parser.specs.Parsing.{Verdict, deep, met, most_parts, parse, refused}
 use Rattle.parser.specs.Progress.{rest}

@@ -1,11 +1,11 @@
 -- How far declarations have been parsed.
-use Rattle.std.specs.Prelude.{◌≡◌, ℕ, ◌+◌, ◌<◌, ◌≤◌, Bool, true, false, List, [], length, Some, None, Ok, Err, Option, Result}
+use Rattle.std.specs.Prelude.{◌≡◌, ℕ, ◌+◌, ◌<◌, Bool, true, false, List, [], length, Some, None, Ok, Err, Option, Result}
 use Rattle.grammar.specs.Machine.{State, between, inside, moding, naming, wanted}
 use Rattle.grammar.specs.Tree as tree
 use Rattle.grammar.specs.Tree.{int, bool}
 use Rattle.outline.specs.Names.{primitive_of}
 use Rattle.tokens.specs.declared.token.Token.{Token}
-use Rattle.parser.specs.Parsing.{most_refs, parse, refused}
+use Rattle.parser.specs.Parsing.{parse, refused}
 use Rattle.parser.specs.Progress.{rest}
 use Rattle.parser.specs.declared.declaration.After.{After}
 use Rattle.parser.specs.declared.declaration.After.TheVariants as after

@@ -1,13 +1,13 @@
 -- How far an expression has been parsed: the facts that the parser's private functions hand to each other.
 use Rattle.std.specs.Prelude.{◌≡◌, ℕ, ◌+◌, ◌<◌, ◌≤◌, true, cond, List, [], ◌∷◌, ◌++◌, map, length, drop, is_some, Some, None, Ok, Err, Option, Result, ◌≢◌}
-use Rattle.grammar.specs.Machine.{Level, Part, Purpose, State, fresh, inside, operand, operand_read, is_sign, leaf}
+use Rattle.grammar.specs.Machine.{Level, Part, Purpose, State, fresh, inside, operand, operand_read, is_sign}
 use Rattle.grammar.specs.Tree.{Declared, Expr, Operator, Stmt, differ, equal, variable}
 use Rattle.tokens.specs.Tokens.{Kind, Placed, token_of}
 use Rattle.tokens.specs.declared.sign.Sign as signs
 use Rattle.tokens.specs.declared.sign.Sign.TheVariants.{Plus, Star, Equals, Differs, Close}
 use Rattle.tokens.specs.declared.token.Token.{Token}
 use Rattle.outline.specs.Code.{Op, op_of, operator_of, postfix}
-use Rattle.parser.specs.Parsing.{begun, most_parentheses, most_parts, parse, refused}
+use Rattle.parser.specs.Parsing.{begun, most_parts, parse, refused}
 use Rattle.outline.specs.declared.code.Instruction.{Instruction}
 use Rattle.outline.specs.declared.code.Operator as operators
 use Rattle.parser.specs.declared.fault.Fault.TheVariants.{NotAllowed}

@@ -1,14 +1,14 @@
 -- How far statements have been parsed: the facts that the parser's private functions hand to each other.
-use Rattle.std.specs.Prelude.{◌≡◌, ℕ, ◌+◌, ◌<◌, ◌≤◌, Bool, true, false, List, [], ◌∷◌, ◌++◌, map, length, Some, None, Ok, Err, Option, Result}
-use Rattle.grammar.specs.Machine.{Level, Part, then_part, else_part, loop_part, Purpose, for_assign, for_choose, for_loop, for_output, State, fresh, inside, finished, wanted, target, input_name, complete, operand, is_word}
-use Rattle.grammar.specs.Tree.{Declared, Expr, Stmt, Train, assign, input, output}
+use Rattle.std.specs.Prelude.{◌≡◌, ℕ, ◌+◌, ◌<◌, ◌≤◌, List, [], ◌∷◌, ◌++◌, length, Some, None, Ok, Err, Option, Result}
+use Rattle.grammar.specs.Machine.{Part, then_part, loop_part, Purpose, for_assign, for_choose, for_loop, for_output, State, fresh, inside, wanted, target, input_name, complete, operand}
+use Rattle.grammar.specs.Tree.{Declared, Expr, Stmt}
 use Rattle.tokens.specs.Tokens.{Kind, Placed}
-use Rattle.std.specs.Borrow.{MutBor}
+use Rattle.std.specs.Borrow.{Bor}
 use Rattle.tokens.specs.declared.token.Token.{Token}
 use Rattle.tokens.specs.declared.word.Word as words
 use Rattle.tokens.specs.declared.word.Word.TheVariants.{Then, Do}
 use Rattle.outline.specs.Code.{Op, enter, flat, head, postfix, source, test}
-use Rattle.parser.specs.Parsing.{Verdict, most_parts, parse, refused}
+use Rattle.parser.specs.Parsing.{most_parts, parse, refused}
 use Rattle.parser.specs.Progress.{Around, Fits, NoPlus, has, rest, wants}
 use Rattle.parser.specs.declared.fault.ParseError.{ParseError}
 use Rattle.parser.specs.declared.fault.ParseError.TheVariants.{Refused, Memory}
@@ -102,7 +102,7 @@ Begins end opened ts at was (Ok x) now = (at < length ts) × BeginsAs end opened
 Begins end opened ts at was (Err e) now = BeginsNot end opened (rest ts at) e
 
 -- a name that no `*` or `+` follows, or that there is none
-abbrev pub Lone : List Token → ℕ → Option (ℕ × MutBor (List ℕ)) → Type 0
+abbrev pub Lone : List Token → ℕ → Option (ℕ × Bor (List ℕ)) → Type 0
 Lone ts at None = (p : ℕ) (n : List ℕ) → rest ts at ≡ record { place = p; kind = Kind.name n } ∷ rest ts (at + 1) → NoPlus (rest ts (at + 1)) → ⊥
 Lone ts at (Some x) = (rest ts at ≡ record { place = x.0; kind = Kind.name x.1.now } ∷ rest ts (at + 1)) × NoPlus (rest ts (at + 1))
 

@@ -1,11 +1,9 @@
 -- How far a train of statements has been parsed, with its open parts on a stack.
-use Rattle.std.specs.Prelude.{◌≡◌, ℕ, ◌+◌, ◌<◌, ◌≤◌, Bool, List, [], ◌∷◌, ◌++◌, length, Some, None, Ok, Err, Option, Result}
+use Rattle.std.specs.Prelude.{◌≡◌, ℕ, ◌<◌, ◌≤◌, List, [], ◌∷◌, ◌++◌, length, Some, None, Ok, Err, Option, Result}
 use Rattle.grammar.specs.Machine as machine
 use Rattle.grammar.specs.Machine.{State, then_part, else_part, loop_part, inside, finished, wanted, complete, turn_else, close_then, close_loop}
 use Rattle.grammar.specs.Tree.{Declared, Stmt, Train}
 use Rattle.outline.specs.Code.{Op, enter, flat, flats, head, otherwise, postfix, test}
-use Rattle.stack.specs.Held.{held, room}
-use Rattle.stack.specs.declared.Stack.{Stack}
 use Rattle.tokens.specs.declared.token.Token.{Token}
 use Rattle.parser.specs.Parsing.{Verdict, most_parts, parse, passed, refused}
 use Rattle.parser.specs.Progress.{rest}

@@ -1,4 +1,4 @@
-use Rattle.std.proofs.Common.{◌≡◌, ◌+◌, ◌∷◌, is_ok, sym, refl, ap, ◌∙◌}
+use Rattle.std.proofs.Common.{◌+◌, ◌∷◌, is_ok, sym, ap, ◌∙◌}
 use Rattle.outline.specs.Names.{names, primitive_of}
 use Rattle.parser.specs.Progress.{rest}
 use Rattle.std.proofs.ResultArms.{chosen}

@@ -1,4 +1,4 @@
-use Rattle.std.proofs.Common.{◌≡◌, is_ok, sym, refl, ap, ◌∙◌, arith, rules}
+use Rattle.std.proofs.Common.{is_ok, sym, ap, arith, rules}
 use Rattle.outline.specs.Code.{operator_of}
 use Rattle.parser.specs.Progress.{NoPlus, NoProduct, NoStar, NoSum}
 use Rattle.std.proofs.ResultArms.{chosen}
@@ -10,8 +10,8 @@ use Rattle.parser.proofs.expression.+comparison_expression_factor_primary.Goals 
 pub comparison-returns-in_default : goal.comparison-returns-in_default
 comparison-returns-in_default t c = one_enclosed c.close.result c.requires c.in_ok-left.ensures (sym c.in_default.ensures) c.close.ensures
 
-pub comparison-overflow-add-left : goal.comparison-overflow-add-left
-comparison-overflow-add-left t c =
+pub comparison-overflow_add-left : goal.comparison-overflow_add-left
+comparison-overflow_add-left t c =
     let within = compared_within c.args.tokens.now c.in_ok-left.left c.in-Some.place (operator_of c.in-Some.operator) (sym c.in-Some.ensures) in
     search rules
 
@@ -28,8 +28,8 @@ comparison-returns t c =
 pub expression-loop-place-init : goal.expression-loop-place-init
 expression-loop-place-init t c = (grown_none _ _ _ _ _ _, c.in_ok-next.ensures.stops)
 
-pub expression-overflow-add-next : goal.expression-overflow-add-next
-expression-overflow-add-next t c =
+pub expression-overflow_add-next : goal.expression-overflow_add-next
+expression-overflow_add-next t c =
     let within = sign_within Plus c.args.tokens.now c.loop-place.next c.in-Some.place (sym c.in-Some.ensures) in
     search rules
 
@@ -55,8 +55,8 @@ expression-returns t c =
 pub factor-loop-place-init : goal.factor-loop-place-init
 factor-loop-place-init t c = grown_none _ _ _ _ _ _
 
-pub factor-overflow-add-next : goal.factor-overflow-add-next
-factor-overflow-add-next t c =
+pub factor-overflow_add-next : goal.factor-overflow_add-next
+factor-overflow_add-next t c =
     let within = sign_within Star c.args.tokens.now c.loop-place.next c.in-Some.place (sym c.in-Some.ensures) in
     search rules
 

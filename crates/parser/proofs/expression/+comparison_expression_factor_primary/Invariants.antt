@@ -1,4 +1,4 @@
-use Rattle.std.proofs.Common.{◌≡◌, ◌+◌, ◌-◌, ◌*◌, length}
+use Rattle.std.proofs.Common.{◌+◌, ◌-◌, ◌*◌, length}
 use Rattle.outline.specs.Code.{ops}
 use Rattle.parser.specs.Progress.{Grows, NoProduct, NoStar, NoSum, rest}
 use Rattle.parser.proofs.expression.+comparison_expression_factor_primary.Given as goal

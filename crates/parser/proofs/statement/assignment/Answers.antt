@@ -1,7 +1,6 @@
-use Rattle.std.proofs.Common.{◌≡◌, is_ok, sym, refl, ap, ◌∙◌, rules}
+use Rattle.std.proofs.Common.{is_ok, sym, ap, ◌∙◌}
 use Rattle.std.proofs.ResultArms.{chosen}
 use Rattle.std.proofs.lemmas.Result.{err_from_is_err_and}
-use Rattle.parser.specs.Progress.{rest}
 use Rattle.parser.proofs.Expressions.{pushed_ops}
 use Rattle.tokens.specs.Tokens.{token_of}
 use Rattle.parser.proofs.Statements.{assignment_done, assignment_refused}

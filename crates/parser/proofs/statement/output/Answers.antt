@@ -1,4 +1,4 @@
-use Rattle.std.proofs.Common.{◌≡◌, is_ok, sym, refl, ap, ◌∙◌, rules}
+use Rattle.std.proofs.Common.{is_ok, ap}
 use Rattle.std.proofs.ResultArms.{chosen}
 use Rattle.std.proofs.lemmas.Result.{err_from_is_err_and}
 use Rattle.parser.specs.Progress.{rest}

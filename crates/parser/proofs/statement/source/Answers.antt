@@ -1,13 +1,11 @@
-use Rattle.std.proofs.Common.{◌≡◌, is_ok, sym, refl, ap, ◌∙◌, rules}
+use Rattle.std.proofs.Common.{is_ok, ap, rules}
 use Rattle.std.proofs.ResultArms.{chosen}
-use Rattle.std.proofs.lemmas.Result.{err_from_is_err_and}
-use Rattle.parser.specs.Progress.{rest}
 use Rattle.parser.proofs.Expressions.{pushed_ops}
 use Rattle.parser.proofs.Statements.{lone_done, lone_within}
 use Rattle.parser.proofs.statement.source.Goals as goal
 
-pub overflow-add-result : goal.overflow-add-result
-overflow-add-result c =
+pub overflow_add-result : goal.overflow_add-result
+overflow_add-result c =
     let within = lone_within c.args.at c.args.tokens.now c.in-Some.place c.in-Some.name.now c.in-Some.ensures.0 in
     search rules
 

@@ -1,4 +1,4 @@
-use Rattle.std.proofs.Common.{◌≡◌, ◌<◌, length, sym, refl, ap, ◌∙◌, subst, arith}
+use Rattle.std.proofs.Common.{◌<◌, length, sym, refl, ap, subst, arith}
 use Rattle.outline.specs.Code.{ops}
 use Rattle.parser.specs.Statements.{BeginsAs}
 use Rattle.parser.specs.declared.train.Part.TheVariants.{Then, Loop}

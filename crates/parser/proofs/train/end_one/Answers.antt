@@ -1,8 +1,7 @@
-use Rattle.std.proofs.Common.{◌≡◌, [], ◌∷◌, ◌++◌, is_ok, sym, refl, ap, ◌∙◌, subst, arith}
+use Rattle.std.proofs.Common.{[], ◌∷◌, ◌++◌, is_ok, refl, ap, ◌∙◌, arith}
 use Rattle.outline.specs.Code.{join, otherwise, repeat}
 use Rattle.parser.specs.declared.train.Part.TheVariants.{Else}
 use Rattle.std.proofs.ResultArms.{chosen}
-use Rattle.tokens.specs.Tokens.{token_of}
 use Rattle.parser.proofs.Expressions.{pushed_ops}
 use Rattle.parser.proofs.Trains.{after_finish, after_join, after_next, after_repeat, after_turn, after_wrong, as_closing, behind, left_stack, popped_few, topped, turned_few, turned_stack}
 use Rattle.parser.proofs.train.end_one.Goals as goal
@@ -18,9 +17,9 @@ returns-in-Next c = record {
   kept = refl;
 }
 
-pub returns-in_ok-push : goal.returns-in_ok-push
-returns-in_ok-push c =
-    let pushed = chosen _ _ _ _ c.push.ensures.items (ap is_ok c.in_ok-push.was) in
+pub returns-in_ok-push-in-Turn : goal.returns-in_ok-push-in-Turn
+returns-in_ok-push-in-Turn c =
+    let pushed = chosen _ _ _ _ c.push.ensures.items (ap is_ok c.in_ok-push-in-Turn.was) in
     record {
       leads = λ all ds w.
           let b = behind w c.in-Some.ensures.1 c.closes.ensures in
@@ -31,9 +30,9 @@ returns-in_ok-push c =
       kept = c.push-in-Turn.ensures.kept ∙ c.pop.ensures.kept;
     }
 
-pub returns-in_ok-push-2 : goal.returns-in_ok-push-2
-returns-in_ok-push-2 c =
-    let pushed = chosen _ _ _ _ c.push-in-Join.ensures.items (ap is_ok c.in_ok-push-2.was) in
+pub returns-in_ok-push-in-Join : goal.returns-in_ok-push-in-Join
+returns-in_ok-push-in-Join c =
+    let pushed = chosen _ _ _ _ c.push-in-Join.ensures.items (ap is_ok c.in_ok-push-in-Join.was) in
     record {
       leads = λ all ds w.
           let b = behind w c.in-Some.ensures.1 c.closes.ensures in
@@ -44,9 +43,9 @@ returns-in_ok-push-2 c =
       kept = c.pop-in-Join.ensures.kept;
     }
 
-pub returns-in_ok-push-3 : goal.returns-in_ok-push-3
-returns-in_ok-push-3 c =
-    let pushed = chosen _ _ _ _ c.push-in-Repeat.ensures.items (ap is_ok c.in_ok-push-3.was) in
+pub returns-in_ok-push-in-Repeat : goal.returns-in_ok-push-in-Repeat
+returns-in_ok-push-in-Repeat c =
+    let pushed = chosen _ _ _ _ c.push-in-Repeat.ensures.items (ap is_ok c.in_ok-push-in-Repeat.was) in
     record {
       leads = λ all ds w.
           let b = behind w c.in-Some.ensures.1 c.closes.ensures in
