@@ -1,9 +1,8 @@
 -- The judge's verdict is right in the words of the language.
-use Rattle.std.proofs.Common.{◌≡◌, ℕ, ◌<◌, ◌≤◌, Bool, true, false, cond, ltb, ◌⊎◌, List, [], ◌∷◌, ◌++◌, length, Some, None, Ok, Err, Option, Result, sym, refl, ap, ◌∙◌, subst, inl, inr, ⊎_elim, arith}
+use Rattle.std.proofs.Common.{◌≡◌, ℕ, ◌≤◌, Bool, true, false, cond, ltb, ◌⊎◌, List, [], ◌∷◌, ◌++◌, length, Some, None, Ok, Err, Result, sym, refl, ap, ◌∙◌, subst, inl, inr, arith}
 use Rattle.grammar.proofs.Grammatical.{grammatical}
 use Rattle.grammar.proofs.Programs.{go_append}
-use Rattle.grammar.specs.Law.{Viable}
-use Rattle.grammar.specs.Machine.{State, go, opening, program_of}
+use Rattle.grammar.specs.Machine.{go, opening, program_of}
 use Rattle.grammar.specs.Tree.{Declared, Program, Train}
 use Rattle.modes.proofs.Modal.{stands}
 use Rattle.modes.specs.Declaring as declarations
@@ -16,7 +15,7 @@ use Rattle.parser.specs.declared.fault.Fault as grammar
 use Rattle.parser.specs.declared.fault.Fault.TheVariants.{NotAllowed, TooDeep, MemoryShort}
 use Rattle.sheet.specs.Answer.{Answers, Checks}
 use Rattle.sheet.specs.Correct.{Correct, Good}
-use Rattle.sheet.specs.Judging.{Verdict, after_declaring, after_parsing, after_reading, judging, passed, refused}
+use Rattle.sheet.specs.Judging.{after_declaring, after_parsing, after_reading, judging, passed, refused}
 use Rattle.sheet.specs.Law.{Denied, Lawful, Misplaced, Nested, Passes}
 use Rattle.sheet.specs.declared.Sheet.{Sheet}
 use Rattle.sheet.specs.declared.fault.Fault.{Fault}

@@ -1,9 +1,8 @@
 -- What parsing says of the machine, and of the grammar above it.
 use Rattle.std.proofs.Common.{◌≡◌, ℕ, Bool, true, false, cond, ◌⊎◌, List, [], ◌∷◌, ◌++◌, Some, None, Option, sym, refl, ap, ◌∙◌, subst, inl, inr, ⊎_elim, arith}
-use Rattle.grammar.specs.Machine.{State, advance, go, opening, program_of, runs}
+use Rattle.grammar.specs.Machine.{State, advance, go, program_of, runs}
 use Rattle.grammar.specs.Tree.{Program}
-use Rattle.parser.specs.Parsing.{Verdict, at_end, deep, met, parse, passed, refused}
-use Rattle.parser.specs.declared.fault.Fault.{Fault}
+use Rattle.parser.specs.Parsing.{at_end, deep, met, parse, passed, refused}
 use Rattle.parser.specs.declared.fault.Fault.TheVariants.{NotAllowed, TooDeep, MemoryShort}
 use Rattle.sheet.specs.Correct.{Shallow}
 use Rattle.tokens.specs.Tokens.{Placed}

@@ -1,7 +1,7 @@
 -- The statements of a tree are counted on its code.
-use Rattle.std.proofs.Common.{◌≡◌, ℕ, ◌+◌, ◌<◌, ◌≤◌, List, [], ◌∷◌, ◌++◌, map, length, get_or, drop, sym, refl, ap, ◌∙◌, arith}
+use Rattle.std.proofs.Common.{◌≡◌, ℕ, ◌+◌, ◌<◌, ◌≤◌, List, [], ◌∷◌, ◌++◌, map, length, get_or, drop, refl, ap, ◌∙◌, arith}
 use Rattle.grammar.specs.Tree.{Expr, variable, number, truth, binary, group, Stmt, assign, choose, choose_else, loop, input, output, Train, last, more}
-use Rattle.outline.specs.Code.{Op, apply, enter, flat, flats, head, join, op_of, otherwise, postfix, repeat, source, store, test, write}
+use Rattle.outline.specs.Code.{Op, apply, enter, flat, flats, join, op_of, otherwise, postfix, repeat, source, store, test, write}
 use Rattle.outline.specs.declared.code.Instruction.{Instruction}
 use Rattle.std.proofs.lemmas.List.{at_drop_more, at_drop_all}
 use Rattle.sheet.specs.Sizes.{counted, counts, size, size_of}

@@ -1,5 +1,5 @@
 -- What a passed sheet is: its tokens derive a tree within the limits, the tree obeys the modes, and its code is the tree's.
-use Rattle.std.specs.Prelude.{◌≡◌, ℕ, false, List, [], ◌∷◌, Some, None, Option}
+use Rattle.std.specs.Prelude.{◌≡◌, false, List, [], ◌∷◌, Some, None, Option}
 use Rattle.grammar.specs.Bnf.{Derives}
 use Rattle.grammar.specs.Machine.{State, advance, opening}
 use Rattle.grammar.specs.Tree.{Declared, Program, Train}

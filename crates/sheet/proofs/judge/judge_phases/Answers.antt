@@ -10,8 +10,8 @@ use Rattle.sheet.proofs.judge.judge_phases.Goals.{In-Ok-check_outline}
 all_found : (c : In-Ok-check_outline) → Stages (length c.args.memory.now) c.args.source.now (record { declared = names c.in-Ok-parse_tokens.outline.declared; body = c.in-Ok-parse_tokens.ensures.0 }) (placed c.in-Ok.tokens)
 all_found c = found c.in-Ok-parse_tokens.ensures.0 c.if-memory-lt-MOST_PARTS.false c.in-Ok.ensures.defined (subst (λ l. parsing.parsing (length c.args.memory.now) (length c.args.source.now) l ≡ parsing.passed (record { declared = names c.in-Ok-parse_tokens.outline.declared; body = c.in-Ok-parse_tokens.ensures.0 })) (ap (map token_of) c.as_slice.ensures.value) c.in-Ok-parse_tokens.ensures.1) c.in-Ok-parse_tokens.ensures.2 c.in-Ok-check_outline.ensures.0 c.in-Ok-check_outline.ensures.1
 
-pub invariant-of-result : goal.invariant-of-result
-invariant-of-result c = (∣ correct (all_found (goal.at.invariant-of-result c).In-Ok-check_outline) c.in-Ok-parse_tokens.ensures.2 ∣₁, tt)
+pub invariant_of-result : goal.invariant_of-result
+invariant_of-result c = record { correct = ∣ correct (all_found (goal.at.invariant_of-result c).In-Ok-check_outline) c.in-Ok-parse_tokens.ensures.2 ∣₁ }
 
 pub returns-in-Ok-check_outline : goal.returns-in-Ok-check_outline
 returns-in-Ok-check_outline c =
