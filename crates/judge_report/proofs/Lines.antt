@@ -1,5 +1,5 @@
 -- The lines that are written, and those that are to come.
-use Rattle.std.proofs.Common.{◌≡◌, ℕ, zero, suc, ◌+◌, ◌<◌, ◌≤◌, List, [], ◌∷◌, ◌++◌, map, length, get_or, drop, codes, sym, refl, ap, ◌∙◌, append_assoc, append-nil, add-one}
+use Rattle.std.proofs.Common.{◌≡◌, ℕ, zero, suc, ◌+◌, ◌<◌, ◌≤◌, List, ◌++◌, map, length, get_or, drop, codes, sym, refl, ap, ◌∙◌, append_assoc, append-nil, add-one}
 use Rattle.judge_report.specs.Report.{name_line, name_lines, refs_text}
 use Rattle.outline.specs.Names.{declared_of}
 use Rattle.outline.specs.declared.declared.Declared.{Declared}

@@ -5,4 +5,4 @@ use Rattle.judge_report.proofs.add_refs.Goals as goal
 
 pub loop-written-preserved : goal.loop-written-preserved
 loop-written-preserved c =
-    refs_more _ _ _ c.loop-written.-written c.loop-written.invariant (chosen _ _ _ _ c.push_str.ensures.bytes (ap is_ok c.in_ok-push_str.was))
+    refs_more _ _ _ c.loop-written._written c.loop-written.invariant (chosen _ _ _ _ c.push_str.ensures.bytes (ap is_ok c.in_ok-push_str.was))
