@@ -1,6 +1,6 @@
 // Code over any host: readings are copied to the output.
 ghost use Rattle.std.specs.Prelude.{◌≡◌};
-ghost use Rattle.hosts.specs.Copying.{Copies, copy_after, copy_answer, copying as copying-up-to};
+ghost use Rattle.hosts.specs.Copying.{Copies, copy_after, copy_answer, copying as copying_up_to};
 ghost use Rattle.hosts.specs.Meaning.{holding};
 
 use crate::exchange::{Cause, Item, Value};
@@ -16,8 +16,8 @@ pub struct Copied {
 /// Reads up to `most` items and writes each as it was read. What is answered and what the host then holds depend on nothing
 /// but `most` and what it held.
 pub fn copy_readings<H: Host>(host: &mut H, most: usize) -> Copied
-    ensures defined { (result, holding left said room host.new) ≡ copying-up-to most (holding left said room host.old) }
-    ensures lawful { Copies most (holding left said room host.old) result (holding left said room host.new) }
+    ensures defined { (result, holding H.left H.said H.room host.new) ≡ copying_up_to most (holding H.left H.said H.room host.old) }
+    ensures lawful { Copies most (holding H.left H.said H.room host.old) result (holding H.left H.said H.room host.new) }
 {
     for count in 0..most {
         if let Err(cause) = copy_one(host) {
@@ -34,8 +34,8 @@ pub fn copy_readings<H: Host>(host: &mut H, most: usize) -> Copied
 }
 
 fn copy_one<H: Host>(host: &mut H) -> Result<(), Cause>
-    ensures answer { result ≡ copy_answer (holding left said room host.old) }
-    ensures after { holding left said room host.new ≡ copy_after result (holding left said room host.old) }
+    ensures answer { result ≡ copy_answer (holding H.left H.said H.room host.old) }
+    ensures after { holding H.left H.said H.room host.new ≡ copy_after result (holding H.left H.said H.room host.old) }
 {
     let value = match host.front() {
         Some(Item::Number(n)) => Value::Number(n),
