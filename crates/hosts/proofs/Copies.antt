@@ -1,6 +1,6 @@
 -- Copying one reading after the other, and what it comes to.
-use Rattle.std.proofs.Common.{◌≡◌, ℕ, zero, suc, ◌+◌, ◌-◌, ◌<◌, ◌≤◌, Bool, true, false, cond, leb, List, [], ◌∷◌, ◌++◌, Some, None, Ok, Err, Result, sym, refl, ap, ◌∙◌, append_assoc, append-nil, add-zero, arith}
-use Rattle.hosts.specs.Copying.{Copies, Stops, as_item, copy_after, copy_answer, copying, counted}
+use Rattle.std.proofs.Common.{◌≡◌, ℕ, zero, suc, ◌+◌, ◌-◌, ◌<◌, ◌≤◌, Bool, true, false, cond, leb, List, [], ◌∷◌, ◌++◌, Some, None, Ok, Err, Option, Result, sym, refl, ap, subst, ◌∙◌, append_assoc, append-nil, add-zero, arith}
+use Rattle.hosts.specs.Copying.{Copies, Ends, Stops, as_item, copy_after, copy_answer, copying, counted, values_of}
 use Rattle.hosts.specs.Meaning.{Holding, judged, most_written, put_answer}
 use Rattle.hosts.specs.declared.copying.Copied.{Copied}
 use Rattle.hosts.specs.declared.exchange.Cause.{Cause}
@@ -10,6 +10,7 @@ use Rattle.hosts.specs.declared.exchange.Item.TheVariants as item
 use Rattle.hosts.specs.declared.exchange.Value.{Value}
 use Rattle.hosts.specs.declared.exchange.Value.TheVariants as value
 use Rattle.std.proofs.lemmas.Bool.{leb-false}
+use Rattle.std.proofs.Math.Dec.{eqb-suc-zero}
 
 -- what comes of the rest, after so many were copied
 abbrev pub resumed : ℕ → Copied × Holding → Copied × Holding
@@ -51,3 +52,77 @@ none_copied n h c stops = record {
   counts = refl;
   ends = (omega arith, stops);
 }
+
+abbrev choice : Bool → Result (Unit {0}) Cause
+choice t = cond t (Ok tt) (Err Large)
+
+not_ok : (c : Cause) → ◌≡◌ {A = Result (Unit {0}) Cause} (Err c) (Ok tt) → ⊥
+not_ok c e = cc
+
+not_err : (c : Cause) → ◌≡◌ {A = Result (Unit {0}) Cause} (Ok tt) (Err c) → ⊥
+not_err c e = cc
+
+err_parts : (c d : Cause) → ◌≡◌ {A = Result (Unit {0}) Cause} (Err c) (Err d) → c ≡ d
+err_parts c d e = cc
+
+-- with room, the value decides
+with_room : (r : ℕ) (v : Value) → put_answer (suc r) v ≡ judged v
+with_room r v = ap (λ t. cond t (Err Full) (judged v)) (eqb-suc-zero r)
+
+has_room : (room : ℕ) (v : Value) → put_answer room v ≡ Ok tt → (0 < room) × (judged v ≡ Ok tt)
+has_room zero v e = absurd (not_ok Full e)
+has_room (suc r) v e = (omega arith, sym (with_room r v) ∙ e)
+
+too_large : (k : ℕ) (t : Bool) (c : Cause) → leb k most_written ≡ t → choice t ≡ Err c → (Large ≡ c) × (most_written < k)
+too_large k true c is e = absurd (not_err c e)
+too_large k false c is e = (err_parts Large c e, leb-false k most_written is)
+
+-- a value that is refused stops the copying
+refused : (v : Value) (is : List Item) (said : List Value) (room : ℕ) (c : Cause) → put_answer room v ≡ Err c → Stops c (record { left = as_item v ∷ is; said = said; room = room })
+refused v is said zero c e =
+    subst (λ d. Stops d (record { left = as_item v ∷ is; said = said; room = 0 })) (err_parts Full c e) (v, is, refl, refl)
+refused (value.Truth b) is said (suc r) c e = absurd (not_err c (sym (with_room r (value.Truth b)) ∙ e))
+refused (value.Number k) is said (suc r) c e =
+    let large = too_large k (leb k most_written) c refl (sym (with_room r (value.Number k)) ∙ e) in
+    subst (λ d. Stops d (record { left = item.Number k ∷ is; said = said; room = suc r })) large.0 (k, is, refl, omega arith, large.1)
+
+ends_later : (n count : ℕ) (stop : Option Cause) (h : Holding) → Ends n count stop h → Ends (suc n) (suc count) stop h
+ends_later n count None h e = ap suc e
+ends_later n count (Some c) h e = (omega arith, e.1)
+
+-- one value, and then what the rest comes to
+module _ (n : ℕ) (v : Value) (is : List Item) (said : List Value) (room : ℕ) (plain : values_of (Some (as_item v)) ≡ v ∷ []) (later : (vs : List Value) (r : ℕ) → let h : Holding = record { left = is; said = vs; room = r } in Copies n h (copying n h).0 (copying n h).1) where
+  one : (a : Result (Unit {0}) Cause) → put_answer room v ≡ a → Copies (suc n) (record { left = as_item v ∷ is; said = said; room = room }) (counted a (copying n (copy_after a (record { left = as_item v ∷ is; said = said; room = room }))) (record { left = as_item v ∷ is; said = said; room = room })).0 (counted a (copying n (copy_after a (record { left = as_item v ∷ is; said = said; room = room }))) (record { left = as_item v ∷ is; said = said; room = room })).1
+  one (Ok u) e =
+      let rest = later (said ++ values_of (Some (as_item v))) (room - 1) in
+      let could = has_room room v e in
+      record {
+        values = v ∷ rest.values;
+        read = ap (λ l. as_item v ∷ l) rest.read;
+        written = rest.written ∙ ap (λ l. (said ++ l) ++ rest.values) plain ∙ append_assoc said (v ∷ []) rest.values;
+        space = omega (arith, rest.space, could.0);
+        could = (could.1, rest.could);
+        counts = ap suc rest.counts;
+        ends = ends_later n _ _ _ rest.ends;
+      }
+  one (Err c) e = none_copied n (record { left = as_item v ∷ is; said = said; room = room }) c (refused v is said room c e)
+
+copies : (n : ℕ) (is : List Item) (said : List Value) (room : ℕ) → let h : Holding = record { left = is; said = said; room = room } in Copies n h (copying n h).0 (copying n h).1
+copies zero is said room = record {
+  values = [];
+  read = refl;
+  written = sym (append-nil said);
+  space = omega arith;
+  could = tt;
+  counts = refl;
+  ends = refl;
+}
+copies (suc n) [] said room = none_copied n (record { left = []; said = said; room = room }) Empty refl
+copies (suc n) (item.Unreadable ∷ is) said room = none_copied n (record { left = item.Unreadable ∷ is; said = said; room = room }) Unreadable (is, refl)
+copies (suc n) (item.Number k ∷ is) said room = one n (value.Number k) is said room refl (copies n is) (put_answer room (value.Number k)) refl
+copies (suc n) (item.Truth b ∷ is) said room = one n (value.Truth b) is said room refl (copies n is) (put_answer room (value.Truth b)) refl
+
+-- what copying comes to is what it means
+pub lawful : (most : ℕ) (h after : Holding) (r : Copied) → (r, after) ≡ copying most h → Copies most h r after
+lawful most h after r is =
+    subst (λ (x : Copied × Holding). Copies most h x.0 x.1) (sym is) (copies most h.left h.said h.room)

@@ -1,5 +1,5 @@
 -- What a host holds, and what its calls make of that.
-use Rattle.std.specs.Prelude.{◌≡◌, ℕ, ◌-◌, ◌≤◌, cond, List, [], ◌∷◌, ◌++◌, Some, None, Ok, Err, Option, Result, ◌==◌, nat_le}
+use Rattle.std.specs.Prelude.{ℕ, ◌-◌, ◌≤◌, cond, List, [], ◌∷◌, ◌++◌, Some, None, Ok, Err, Option, Result, ◌==◌, nat_le}
 use Rattle.hosts.specs.declared.exchange.Cause.{Cause}
 use Rattle.hosts.specs.declared.exchange.Cause.TheVariants.{Full, Large}
 use Rattle.hosts.specs.declared.exchange.Item.{Item}
