@@ -1,10 +1,10 @@
 // From two operands to an exact result, and from that to what a rule gives.
-ghost use Rattle.std.specs.Prelude.{◌≡◌, ◌^◌, ◌<◌, ◌≤◌, ◌&&◌, leb, if◌then◌else◌, Some, None, nat_le};
+ghost use Rattle.std.specs.Prelude.{◌≡◌, ◌^◌, ◌<◌, ◌≤◌, ◌&&◌, if◌then◌else◌, Some, None, nat_le};
 ghost use Rattle.rules.specs.Delivered.{capped, strict, turning};
 
 /// Both operands in 64 bits, so that their total and their product are exact; none if one is above the greatest value.
 pub(crate) fn operands(a: u32, b: u32, greatest: u32) -> Option<(u64, u64)>
-    ensures { result ≡ (if leb a greatest && nat_le b greatest then Some (a, b) else None) }
+    ensures { result ≡ (if nat_le a greatest && nat_le b greatest then Some (a, b) else None) }
 {
     if a > greatest || b > greatest {
         return None;
