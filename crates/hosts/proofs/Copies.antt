@@ -90,9 +90,16 @@ ends_later : (n count : ℕ) (stop : Option Cause) (h : Holding) → Ends n coun
 ends_later n count None h e = ap suc e
 ends_later n count (Some c) h e = (omega arith, e.1)
 
+-- a host whose first item is a value that can be read, and what comes of an answer to it
+abbrev facing : Value → List Item → List Value → ℕ → Holding
+facing v is said room = record { left = as_item v ∷ is; said = said; room = room }
+
+abbrev told : ℕ → Result (Unit {0}) Cause → Holding → Copied × Holding
+told n a h = counted a (copying n (copy_after a h)) h
+
 -- one value, and then what the rest comes to
 module _ (n : ℕ) (v : Value) (is : List Item) (said : List Value) (room : ℕ) (plain : values_of (Some (as_item v)) ≡ v ∷ []) (later : (vs : List Value) (r : ℕ) → let h : Holding = record { left = is; said = vs; room = r } in Copies n h (copying n h).0 (copying n h).1) where
-  one : (a : Result (Unit {0}) Cause) → put_answer room v ≡ a → Copies (suc n) (record { left = as_item v ∷ is; said = said; room = room }) (counted a (copying n (copy_after a (record { left = as_item v ∷ is; said = said; room = room }))) (record { left = as_item v ∷ is; said = said; room = room })).0 (counted a (copying n (copy_after a (record { left = as_item v ∷ is; said = said; room = room }))) (record { left = as_item v ∷ is; said = said; room = room })).1
+  one : (a : Result (Unit {0}) Cause) → put_answer room v ≡ a → Copies (suc n) (facing v is said room) (told n a (facing v is said room)).0 (told n a (facing v is said room)).1
   one (Ok u) e =
       let rest = later (said ++ values_of (Some (as_item v))) (room - 1) in
       let could = has_room room v e in
@@ -105,7 +112,7 @@ module _ (n : ℕ) (v : Value) (is : List Item) (said : List Value) (room : ℕ)
         counts = ap suc rest.counts;
         ends = ends_later n _ _ _ rest.ends;
       }
-  one (Err c) e = none_copied n (record { left = as_item v ∷ is; said = said; room = room }) c (refused v is said room c e)
+  one (Err c) e = none_copied n (facing v is said room) c (refused v is said room c e)
 
 copies : (n : ℕ) (is : List Item) (said : List Value) (room : ℕ) → let h : Holding = record { left = is; said = said; room = room } in Copies n h (copying n h).0 (copying n h).1
 copies zero is said room = record {
