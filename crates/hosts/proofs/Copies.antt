@@ -1,12 +1,10 @@
 -- Copying one reading after the other, and what it comes to.
 use Rattle.std.proofs.Common.{◌≡◌, ℕ, zero, suc, ◌+◌, ◌-◌, ◌<◌, ◌≤◌, Bool, true, false, cond, leb, List, [], ◌∷◌, ◌++◌, Some, None, Ok, Err, Option, Result, sym, refl, ap, subst, ◌∙◌, append_assoc, append-nil, add-zero, arith}
-use Rattle.hosts.specs.Copying.{Copies, Ends, Stops, as_item, copy_after, copy_answer, copying, counted, values_of}
-use Rattle.hosts.specs.Meaning.{Holding, judged, most_written, put_answer}
+use Rattle.hosts.specs.Copying.{Copies, Ends, Stops, copy_after, copy_answer, copying, counted}
+use Rattle.hosts.specs.Meaning.{Holding, Item, judged, most_written, put_answer}
 use Rattle.hosts.specs.declared.copying.Copied.{Copied}
 use Rattle.hosts.specs.declared.exchange.Cause.{Cause}
 use Rattle.hosts.specs.declared.exchange.Cause.TheVariants.{Empty, Unreadable, Full, Large}
-use Rattle.hosts.specs.declared.exchange.Item.{Item}
-use Rattle.hosts.specs.declared.exchange.Item.TheVariants as item
 use Rattle.hosts.specs.declared.exchange.Value.{Value}
 use Rattle.hosts.specs.declared.exchange.Value.TheVariants as value
 use Rattle.std.proofs.lemmas.Bool.{leb-false}
@@ -78,13 +76,13 @@ too_large k true c is e = absurd (not_err c e)
 too_large k false c is e = (err_parts Large c e, leb-false k most_written is)
 
 -- a value that is refused stops the copying
-refused : (v : Value) (is : List Item) (said : List Value) (room : ℕ) (c : Cause) → put_answer room v ≡ Err c → Stops c (record { left = as_item v ∷ is; said = said; room = room })
+refused : (v : Value) (is : List Item) (said : List Value) (room : ℕ) (c : Cause) → put_answer room v ≡ Err c → Stops c (record { left = Ok v ∷ is; said = said; room = room })
 refused v is said zero c e =
-    subst (λ d. Stops d (record { left = as_item v ∷ is; said = said; room = 0 })) (err_parts Full c e) (v, is, refl, refl)
+    subst (λ d. Stops d (record { left = Ok v ∷ is; said = said; room = 0 })) (err_parts Full c e) (v, is, refl, refl)
 refused (value.Truth b) is said (suc r) c e = absurd (not_err c (sym (with_room r (value.Truth b)) ∙ e))
 refused (value.Number k) is said (suc r) c e =
     let large = too_large k (leb k most_written) c refl (sym (with_room r (value.Number k)) ∙ e) in
-    subst (λ d. Stops d (record { left = item.Number k ∷ is; said = said; room = suc r })) large.0 (k, is, refl, omega arith, large.1)
+    subst (λ d. Stops d (record { left = Ok (value.Number k) ∷ is; said = said; room = suc r })) large.0 (k, is, refl, omega arith, large.1)
 
 ends_later : (n count : ℕ) (stop : Option Cause) (h : Holding) → Ends n count stop h → Ends (suc n) (suc count) stop h
 ends_later n count None h e = ap suc e
@@ -92,21 +90,21 @@ ends_later n count (Some c) h e = (omega arith, e.1)
 
 -- a host whose first item is a value that can be read, and what comes of an answer to it
 abbrev facing : Value → List Item → List Value → ℕ → Holding
-facing v is said room = record { left = as_item v ∷ is; said = said; room = room }
+facing v is said room = record { left = Ok v ∷ is; said = said; room = room }
 
 abbrev told : ℕ → Result (Unit {0}) Cause → Holding → Copied × Holding
 told n a h = counted a (copying n (copy_after a h)) h
 
 -- one value, and then what the rest comes to
-module _ (n : ℕ) (v : Value) (is : List Item) (said : List Value) (room : ℕ) (plain : values_of (Some (as_item v)) ≡ v ∷ []) (later : (vs : List Value) (r : ℕ) → let h : Holding = record { left = is; said = vs; room = r } in Copies n h (copying n h).0 (copying n h).1) where
+module _ (n : ℕ) (v : Value) (is : List Item) (said : List Value) (room : ℕ) (later : (vs : List Value) (r : ℕ) → let h : Holding = record { left = is; said = vs; room = r } in Copies n h (copying n h).0 (copying n h).1) where
   one : (a : Result (Unit {0}) Cause) → put_answer room v ≡ a → Copies (suc n) (facing v is said room) (told n a (facing v is said room)).0 (told n a (facing v is said room)).1
   one (Ok u) e =
-      let rest = later (said ++ values_of (Some (as_item v))) (room - 1) in
+      let rest = later (said ++ v ∷ []) (room - 1) in
       let could = has_room room v e in
       record {
         values = v ∷ rest.values;
-        read = ap (λ l. as_item v ∷ l) rest.read;
-        written = rest.written ∙ ap (λ l. (said ++ l) ++ rest.values) plain ∙ append_assoc said (v ∷ []) rest.values;
+        read = ap (λ l. Ok v ∷ l) rest.read;
+        written = rest.written ∙ append_assoc said (v ∷ []) rest.values;
         space = omega (arith, rest.space, could.0);
         could = (could.1, rest.could);
         counts = ap suc rest.counts;
@@ -125,9 +123,8 @@ copies zero is said room = record {
   ends = refl;
 }
 copies (suc n) [] said room = none_copied n (record { left = []; said = said; room = room }) Empty refl
-copies (suc n) (item.Unreadable ∷ is) said room = none_copied n (record { left = item.Unreadable ∷ is; said = said; room = room }) Unreadable (is, refl)
-copies (suc n) (item.Number k ∷ is) said room = one n (value.Number k) is said room refl (copies n is) (put_answer room (value.Number k)) refl
-copies (suc n) (item.Truth b ∷ is) said room = one n (value.Truth b) is said room refl (copies n is) (put_answer room (value.Truth b)) refl
+copies (suc n) (Err e ∷ is) said room = none_copied n (record { left = Err e ∷ is; said = said; room = room }) Unreadable (is, refl)
+copies (suc n) (Ok v ∷ is) said room = one n v is said room (copies n is) (put_answer room v) refl
 
 -- what copying comes to is what it means
 pub lawful : (most : ℕ) (h after : Holding) (r : Copied) → (r, after) ≡ copying most h → Copies most h r after

@@ -2,8 +2,7 @@
 use Rattle.std.specs.Prelude.{ℕ, ◌-◌, ◌≤◌, cond, List, [], ◌∷◌, ◌++◌, Some, None, Ok, Err, Option, Result, ◌==◌, nat_le}
 use Rattle.hosts.specs.declared.exchange.Cause.{Cause}
 use Rattle.hosts.specs.declared.exchange.Cause.TheVariants.{Full, Large}
-use Rattle.hosts.specs.declared.exchange.Item.{Item}
-use Rattle.hosts.specs.declared.exchange.Item.TheVariants as item
+use Rattle.hosts.specs.declared.exchange.Unreadable.{Unreadable}
 use Rattle.hosts.specs.declared.exchange.Value.{Value}
 use Rattle.hosts.specs.declared.exchange.Value.TheVariants as value
 
@@ -14,12 +13,16 @@ most_read = 4294967294
 abbrev pub most_written : ℕ
 most_written = 2147483647
 
+-- what is read: a value, or something that cannot be read
+abbrev pub Item : Type 0
+Item = Result Value Unreadable
+
 -- no number among the items is above the greatest that can be read
 abbrev pub Readable : List Item → Type 0
 Readable [] = Unit {0}
-Readable (item.Number n ∷ is) = (n ≤ most_read) × Readable is
-Readable (item.Truth b ∷ is) = Readable is
-Readable (item.Unreadable ∷ is) = Readable is
+Readable (Ok (value.Number n) ∷ is) = (n ≤ most_read) × Readable is
+Readable (Ok (value.Truth b) ∷ is) = Readable is
+Readable (Err _ ∷ is) = Readable is
 
 -- the first item, if there is one
 abbrev pub first : List Item → Option Item

@@ -3,7 +3,7 @@ ghost use Rattle.std.specs.Prelude.{◌≡◌};
 ghost use Rattle.hosts.specs.Copying.{Copies, copy_after, copy_answer, copying as copying_up_to};
 ghost use Rattle.hosts.specs.Meaning.{holding};
 
-use crate::exchange::{Cause, Item, Value};
+use crate::exchange::Cause;
 use crate::host::Host;
 
 /// How many readings were copied, and why no more were; without a cause, all that were asked for.
@@ -37,12 +37,7 @@ fn copy_one<H: Host>(host: &mut H) -> Result<(), Cause>
     ensures answer { result ≡ copy_answer (holding H.left H.said H.room host.old) }
     ensures after { holding H.left H.said H.room host.new ≡ copy_after result (holding H.left H.said H.room host.old) }
 {
-    let value = match host.front() {
-        Some(Item::Number(n)) => Value::Number(n),
-        Some(Item::Truth(b)) => Value::Truth(b),
-        Some(Item::Unreadable) => return Err(Cause::Unreadable),
-        None => return Err(Cause::Empty),
-    };
+    let value = host.front().ok_or(Cause::Empty)??;
     host.put(value)?;
     host.take();
     Ok(())

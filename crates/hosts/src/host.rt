@@ -1,7 +1,6 @@
 // What a host is.
 ghost use Rattle.std.specs.Prelude.{◌≡◌, ℕ, List};
-ghost use Rattle.hosts.specs.Meaning.{Readable, behind, first, put_answer, put_room, put_said};
-ghost use Rattle.hosts.specs.declared.exchange.Item.{Item};
+ghost use Rattle.hosts.specs.Meaning.{Item, Readable, behind, first, put_answer, put_room, put_said};
 ghost use Rattle.hosts.specs.declared.exchange.Value.{Value};
 
 use crate::exchange::{Cause, Item, Value};

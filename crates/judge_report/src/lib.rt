@@ -1,21 +1,20 @@
 // The report of a judgement, as text.
 #![tactic(auto)]
 
-ghost use Rattle.std.specs.Prelude.{◌≡◌, ◌++◌, map, IfOk, string_bytes, codes, decimal, OnOk};
+ghost use Rattle.std.specs.Prelude.{◌≡◌, ◌++◌, IfOk, OnOk, Some, codes, decimal, map, string_bytes};
 ghost use Rattle.grammar.specs.Tree.{Train};
-ghost use Rattle.judge_report.specs.Report.{name_line, name_lines, primitive_text, refs_text, report_of};
+ghost use Rattle.judge_report.specs.Report.{mode_text, name_lines, report_of};
 ghost use Rattle.outline.specs.Code.{flats};
 ghost use Rattle.outline.specs.Names.{declared_of, primitive_of};
-ghost use Rattle.sheet.specs.Judging.{judging, passed, refused as refused-for};
+ghost use Rattle.sheet.specs.Judging.{judging};
 ghost use Rattle.sheet.specs.Sizes.{code_in, names_in, size};
 
 use outline::declared::{Declared, Primitive};
-use parser::train::Part;
-use sheet::fault::{JudgeError, Refusal};
+use parser::train::{MOST_PARTS, Part};
+use refusals::Failure;
 use sheet::{Sheet, judge_source};
 use std::alloc::{AllocError, Global};
-
-const MOST_PARTS: usize = 16;
+use std::fmt;
 
 /// The report on a source. Only want of heap memory is an `Err`.
 pub fn report(heap: Global, source: &[u8]) -> Result<String, AllocError>
@@ -24,17 +23,9 @@ pub fn report(heap: Global, source: &[u8]) -> Result<String, AllocError>
     let mut memory = [Part::Then; MOST_PARTS];
     match judge_source(heap, source, &mut memory) {
         Ok(sheet) => passed_report(heap, &sheet),
-        Err(JudgeError::Refused(refusal)) => refused_report(heap, refusal),
-        Err(JudgeError::Memory) => Err(AllocError),
+        Err(Failure::Refused(refusal)) => format!(in heap; "{refusal}\n"),
+        Err(Failure::Memory(error)) => Err(error),
     }
-}
-
-fn refused_report(heap: Global, refusal: Refusal) -> Result<String, AllocError>
-    ensures { IfOk result (λ s. string_bytes s ≡ report_of (refused-for refusal.fault refusal.place)) }
-{
-    let number = refusal.fault.number();
-    let place = refusal.place;
-    format!(in heap; "refused {number} {place}\n")
 }
 
 fn passed_report(heap: Global, sheet: &Sheet<'_>) -> Result<String, AllocError>
@@ -43,46 +34,35 @@ fn passed_report(heap: Global, sheet: &Sheet<'_>) -> Result<String, AllocError>
     let mut out = String::from_str(heap, "passed\n")?;
     add_names(&mut out, sheet.declared())?;
     let count = sheet.statements();
-    match write!(out, "{count} statements\n") {
-        Ok(()) => Ok(out),
-        Err(_) => Err(AllocError),
-    }
+    writeln!(out, "{count} statements")?;
+    Ok(out)
 }
 
 fn add_names(out: &mut String, declared: &[Declared<'_>]) -> Result<(), AllocError>
     ensures { OnOk result (string_bytes out.new ≡ string_bytes out.old ++ name_lines (map declared_of declared.now)) }
 {
     for name in declared {
-        add_name(out, name)?;
+        let letters = name.name;
+        let mode = Mode(name.refs, name.primitive);
+        writeln!(out, "{letters} {mode}")?;
     }
     Ok(())
 }
 
-fn add_name(out: &mut String, declared: &Declared<'_>) -> Result<(), AllocError>
-    ensures { OnOk result (string_bytes out.new ≡ string_bytes out.old ++ name_line (declared_of declared.now)) }
-{
-    out.push_str(declared.name)?;
-    out.push_str(" ")?;
-    add_refs(out, declared.refs)?;
-    out.push_str(primitive_word(declared.primitive))?;
-    out.push_str("\n")?;
-    Ok(())
-}
+/// The mode of a name as the report has it: so many `ref`, and the primitive mode.
+#[derive(Clone, Copy)]
+struct Mode(usize, Primitive);
 
-fn add_refs(out: &mut String, refs: usize) -> Result<(), AllocError>
-    ensures { OnOk result (string_bytes out.new ≡ string_bytes out.old ++ refs_text refs) }
-{
-    for _written in 0..refs {
-        out.push_str("ref ")?;
-    }
-    Ok(())
-}
+impl fmt::Display for Mode {
+    ghost output = { λ m. Some (mode_text m.0 (primitive_of m.1)) };
 
-fn primitive_word(primitive: Primitive) -> &'static str
-    ensures { result.now ≡ primitive_text (primitive_of primitive) }
-{
-    match primitive {
-        Primitive::Int => "int",
-        Primitive::Bool => "bool",
+    fn fmt<W: fmt::Write>(&self, f: &mut fmt::Formatter<W>) -> fmt::Result {
+        for _written in 0..self.0 {
+            f.write_str("ref ")?;
+        }
+        f.write_str(match self.1 {
+            Primitive::Int => "int",
+            Primitive::Bool => "bool",
+        })
     }
 }

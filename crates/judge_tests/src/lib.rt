@@ -6,11 +6,12 @@
 mod tests {
     use judge_report::report;
     use parser::train::Part;
-    use sheet::fault::JudgeError;
+    use refusals::{Failure, Numbered};
     use sheet::judge_source;
     use std::process::Abort;
     use std::test::Fail;
 
+    // The table and its loop stand in `scan_tests` too: for both they would be a crate of their own, for a loop of three lines.
     struct Case {
         source: &'static str,
         report: &'static str,
@@ -349,7 +350,7 @@ mod tests {
     fn short_memory(rt: HostRuntime) -> Result<(), Fail> {
         let mut few = [Part::Then; 15];
         match judge_source(rt.alloc(), b"$", &mut few) {
-            Err(JudgeError::Refused(refusal)) => {
+            Err(Failure::Refused(refusal)) => {
                 assert_eq!(rt; refusal.fault.number(), 23);
                 assert_eq!(rt; refusal.place, 0);
                 Ok(())

@@ -1,6 +1,5 @@
 pub mod Flattened
 pub mod Judged
+pub mod Letters
 pub mod Modal
 pub mod Named
-pub mod Passing
-pub mod Stacks

@@ -1,16 +1,17 @@
 // Declared names: none twice, and not too many.
-ghost use Rattle.std.specs.Prelude.{◌≡◌, map};
+ghost use Rattle.std.specs.Prelude.{map};
 ghost use Rattle.modes.specs.Answer.{Tells};
-ghost use Rattle.modes.specs.Declaring.{declaring, holds, wrong_at};
+ghost use Rattle.modes.specs.Declaring.{declaring, wrong_at};
 ghost use Rattle.outline.specs.Names.{declared_of};
 
-use crate::fault::{Fault, Refusal};
+use crate::fault::Fault;
 use outline::declared::Declared;
+use refusals::Refusal;
 
 const MOST_NAMES: usize = 64;
 
 /// Whether the declared names are well, or the first fault.
-pub fn check_declared(declared: &[Declared<'_>]) -> Result<(), Refusal>
+pub fn check_declared(declared: &[Declared<'_>]) -> Result<(), Refusal<Fault>>
     ensures { Tells (declaring (map declared_of declared.now)) result }
 {
     for (at, name) in declared.iter().enumerate() {
@@ -20,10 +21,10 @@ pub fn check_declared(declared: &[Declared<'_>]) -> Result<(), Refusal>
 }
 
 /// Whether a name is well after those before it.
-fn check_name(before: &[Declared<'_>], name: Declared<'_>) -> Result<(), Refusal>
+fn check_name(before: &[Declared<'_>], name: Declared<'_>) -> Result<(), Refusal<Fault>>
     ensures { Tells (wrong_at (map declared_of before.now) (declared_of name.entry)) result }
 {
-    if is_among(before, name.name) {
+    if before.iter().any(|one| one.name == name.name) {
         return Err(Refusal {
             fault: Fault::DeclaredBefore,
             place: name.place,
@@ -36,16 +37,4 @@ fn check_name(before: &[Declared<'_>], name: Declared<'_>) -> Result<(), Refusal
         });
     }
     Ok(())
-}
-
-/// Whether one of the names has these letters.
-fn is_among(names: &[Declared<'_>], letters: &str) -> bool
-    ensures { result ≡ holds (map declared_of names.now) letters.now }
-{
-    for one in names {
-        if one.name == letters {
-            return true;
-        }
-    }
-    false
 }

@@ -1,17 +1,36 @@
 // The modes of statements, in one pass over their flat form.
-ghost use Rattle.std.specs.Prelude.{◌≡◌, ◌-◌, [], ◌∷◌, map, nat_le};
+ghost use Rattle.std.specs.Prelude.{◌≡◌, [], ◌∷◌, map};
 ghost use Rattle.modes.specs.Answer.{Answers};
 ghost use Rattle.modes.specs.Declaring.{lookup};
-ghost use Rattle.modes.specs.Flatly.{applying, flatly, gone, known, onto, step, storing, testing, worked_out};
-ghost use Rattle.modes.specs.Judging.{named, result_of, shared as both};
-ghost use Rattle.modes.specs.Progress.{Finds, Steps, Takes, entries, entry_of, primitive_in};
+ghost use Rattle.modes.specs.Flatly.{applying, flatly, gone, step, storing, testing};
+ghost use Rattle.modes.specs.Judging.{named, result_of};
+ghost use Rattle.modes.specs.Progress.{Finds, Steps, Takes, TakesTwo, entries, entry_of, names, primitive_in};
 ghost use Rattle.outline.specs.Code.{op_of, operator_of};
 ghost use Rattle.outline.specs.Names.{declared_of, primitive_of};
 
-use crate::fault::{Fault, ModeError, Refusal};
+use crate::fault::Fault;
 use outline::code::{Instruction, Operator};
 use outline::declared::{Declared, Primitive};
+use refusals::{Failure, Refusal};
 use std::alloc::Global;
+
+/// Whether the modes of some code stand under the declared names, or the first fault.
+pub fn check_statements(
+    heap: Global,
+    declared: &[Declared<'_>],
+    code: &[Instruction<'_>],
+) -> Result<(), Failure<Fault>>
+    ensures { Answers (flatly (map declared_of declared.now) [] (map op_of code.now)) result }
+{
+    let mut judge = Judge {
+        declared,
+        stack: Vec::new(heap),
+    };
+    for instruction in code {
+        judge.advance(*instruction)?;
+    }
+    Ok(())
+}
 
 /// A value or a target on the stack: the place of its step, how many references it has, and its primitive mode.
 #[derive(Clone, Copy)]
@@ -22,151 +41,143 @@ struct Value {
     primitive: Primitive,
 }
 
-/// Whether the modes of some code stand under the declared names, or the first fault.
-pub fn check_statements<'a>(
-    heap: Global,
-    declared: &[Declared<'a>],
-    code: &[Instruction<'a>],
-) -> Result<(), ModeError>
-    ensures { Answers (flatly (map declared_of declared.now) [] (map op_of code.now)) result }
-{
-    let mut stack = Vec::new(heap);
-    for instruction in code {
-        advance(&mut stack, declared, *instruction)?;
-    }
-    Ok(())
-}
-
-/// Takes one step of the code.
-fn advance(
-    stack: &mut Vec<Value>,
-    declared: &[Declared<'_>],
-    instruction: Instruction<'_>,
-) -> Result<(), ModeError>
-    ensures { Steps (step (map declared_of declared.now) (entries stack.old) (op_of instruction.entry)) result (entries stack.new) }
-{
-    match instruction {
-        Instruction::Load(place, name) => load(stack, declared, place, name),
-        Instruction::Number(place, _) => put(stack, plain(place, Primitive::Int)),
-        Instruction::Truth(place, _) => put(stack, plain(place, Primitive::Bool)),
-        Instruction::Apply(place, operator) => apply(stack, place, operator),
-        Instruction::Target(place, name) => refer(stack, declared, place, name),
-        Instruction::Refer(place, name) => refer(stack, declared, place, name),
-        Instruction::Store => store(stack),
-        Instruction::Test(place) => test(stack, place),
-        Instruction::Otherwise => Ok(()),
-        Instruction::Join => Ok(()),
-        Instruction::Head(_) => Ok(()),
-        Instruction::Enter(place) => test(stack, place),
-        Instruction::Repeat => Ok(()),
-        Instruction::Read(_, place, name) => read(stack, declared, place, name),
-        Instruction::Write(_) => {
-            let _ = take(stack);
-            Ok(())
+impl Value {
+    /// A value with no reference.
+    fn plain(place: usize, primitive: Primitive) -> Value
+        ensures { result ≡ record { place = place; refs = 0; primitive = primitive } }
+    {
+        Value {
+            place,
+            refs: 0,
+            primitive,
         }
     }
 }
 
-fn refused(fault: Fault, place: usize) -> ModeError
-    ensures { result ≡ ModeError.Refused (record { fault = fault; place = place }) }
-{
-    ModeError::Refused(Refusal { fault, place })
+/// A judgement under way: the declared names, and the values and targets that the code has left so far.
+#[derive(Drop)]
+struct Judge<'d, 'a> {
+    declared: &'d [Declared<'a>],
+    stack: Vec<Value>,
 }
 
-/// A value with no reference.
-fn plain(place: usize, primitive: Primitive) -> Value
-    ensures { result ≡ record { place = place; refs = 0; primitive = primitive } }
-{
-    Value {
-        place,
-        refs: 0,
-        primitive,
+// A stack with too few values for a step is no fault of the sheet: the flat form of a tree leads to none.
+impl Judge<'_, '_> {
+    /// Takes one step of the code.
+    fn advance(&mut self, instruction: Instruction<'_>) -> Result<(), Failure<Fault>>
+        ensures { Steps self.old (step (names self.old) (entries self.old) (op_of instruction.entry)) result self.new }
+    {
+        match instruction {
+            Instruction::Load(place, name) => {
+                self.push(Value::plain(place, self.find(place, name)?.primitive))
+            }
+            Instruction::Number(place, _) => self.push(Value::plain(place, Primitive::Int)),
+            Instruction::Truth(place, _) => self.push(Value::plain(place, Primitive::Bool)),
+            Instruction::Apply(place, operator) => self.apply(place, operator),
+            Instruction::Target(place, name) | Instruction::Refer(place, name) => {
+                self.push(self.find(place, name)?)
+            }
+            Instruction::Store => self.store(),
+            Instruction::Test(place) | Instruction::Enter(place) => self.test(place),
+            Instruction::Read(_, place, name) => {
+                self.find(place, name)?;
+                Ok(())
+            }
+            Instruction::Write(_) => {
+                self.pop();
+                Ok(())
+            }
+            Instruction::Otherwise
+            | Instruction::Join
+            | Instruction::Head(_)
+            | Instruction::Repeat => Ok(()),
+        }
     }
-}
 
-/// One value more on the stack.
-fn put(stack: &mut Vec<Value>, top: Value) -> Result<(), ModeError>
-    ensures { Steps (gone (entry_of top ∷ entries stack.old)) result (entries stack.new) }
-{
-    stack.push(top)?;
-    Ok(())
-}
-
-/// The value on top of the stack.
-fn take(stack: &mut Vec<Value>) -> Option<Value>
-    ensures { Takes (entries stack.old) result (entries stack.new) }
-{
-    stack.pop()
-}
-
-/// A name as it stands, with its references.
-fn find(declared: &[Declared<'_>], place: usize, name: &str) -> Result<Value, ModeError>
-    ensures { Finds (named place (lookup (map declared_of declared.now) name.now)) place result }
-{
-    for one in declared {
-        if one.name == name {
-            return Ok(Value {
+    /// A name as it stands, with its references.
+    fn find(&self, place: usize, name: &str) -> Result<Value, Refusal<Fault>>
+        ensures { Finds (named place (lookup (names self.now) name.now)) place result }
+    {
+        let Some(one) = self.declared.iter().find(|one| one.name == name) else {
+            return Err(Refusal {
+                fault: Fault::NotDeclared,
                 place,
-                refs: one.refs as u128 + 1,
-                primitive: one.primitive,
             });
+        };
+        Ok(Value {
+            place,
+            refs: one.refs as u128 + 1,
+            primitive: one.primitive,
+        })
+    }
+
+    /// One value more on the stack.
+    fn push(&mut self, top: Value) -> Result<(), Failure<Fault>>
+        ensures { Steps self.old (gone (entry_of top ∷ entries self.old)) result self.new }
+    {
+        self.stack.push(top)?;
+        Ok(())
+    }
+
+    /// The value on top of the stack.
+    fn pop(&mut self) -> Option<Value>
+        ensures stays { names self.new ≡ names self.old }
+        ensures top { Takes (entries self.old) result (entries self.new) }
+    {
+        self.stack.pop()
+    }
+
+    /// The two values on top of the stack, the upper one last.
+    fn operands(&mut self) -> Option<(Value, Value)>
+        ensures stays { names self.new ≡ names self.old }
+        ensures two { TakesTwo (entries self.old) result (entries self.new) }
+    {
+        let right = self.pop()?;
+        let left = self.pop()?;
+        Some((left, right))
+    }
+
+    /// An operator on the two values on top of the stack.
+    fn apply(&mut self, place: usize, operator: Operator) -> Result<(), Failure<Fault>>
+        ensures { Steps self.old (applying place (operator_of operator) (entries self.old)) result self.new }
+    {
+        let Some((left, right)) = self.operands() else {
+            return Ok(());
+        };
+        let Some(primitive) = result_mode(operator, left.primitive, right.primitive) else {
+            return Err(Failure::refused(Fault::Unsuited, place));
+        };
+        self.push(Value::plain(place, primitive))
+    }
+
+    /// The end of an assignment.
+    fn store(&mut self) -> Result<(), Failure<Fault>>
+        ensures { Steps self.old (storing (entries self.old)) result self.new }
+    {
+        let Some((target, value)) = self.operands() else {
+            return Ok(());
+        };
+        if target.primitive != value.primitive {
+            return Err(Failure::refused(Fault::OtherPrimitive, target.place));
+        }
+        // one of the target's references is the name itself
+        if target.refs.saturating_sub(1) <= value.refs {
+            Ok(())
+        } else {
+            Err(Failure::refused(Fault::TooFewReferences, target.place))
         }
     }
-    Err(refused(Fault::NotDeclared, place))
-}
 
-/// The value of a name.
-fn load(
-    stack: &mut Vec<Value>,
-    declared: &[Declared<'_>],
-    place: usize,
-    name: &str,
-) -> Result<(), ModeError>
-    ensures { Steps (worked_out (entries stack.old) place (named place (lookup (map declared_of declared.now) name.now))) result (entries stack.new) }
-{
-    let value = find(declared, place, name)?;
-    put(stack, plain(place, value.primitive))
-}
-
-/// A name as it stands.
-fn refer(
-    stack: &mut Vec<Value>,
-    declared: &[Declared<'_>],
-    place: usize,
-    name: &str,
-) -> Result<(), ModeError>
-    ensures { Steps (onto (entries stack.old) place (named place (lookup (map declared_of declared.now) name.now))) result (entries stack.new) }
-{
-    let value = find(declared, place, name)?;
-    put(stack, value)
-}
-
-/// The name of an input.
-fn read(
-    stack: &mut Vec<Value>,
-    declared: &[Declared<'_>],
-    place: usize,
-    name: &str,
-) -> Result<(), ModeError>
-    ensures { Steps (known (entries stack.old) (named place (lookup (map declared_of declared.now) name.now))) result (entries stack.new) }
-{
-    find(declared, place, name)?;
-    Ok(())
-}
-
-/// An operator on the two values on top of the stack.
-fn apply(stack: &mut Vec<Value>, place: usize, operator: Operator) -> Result<(), ModeError>
-    ensures { Steps (applying place (operator_of operator) (entries stack.old)) result (entries stack.new) }
-{
-    let Some(right) = take(stack) else {
-        return Ok(());
-    };
-    let Some(left) = take(stack) else {
-        return Ok(());
-    };
-    match result_mode(operator, left.primitive, right.primitive) {
-        Some(primitive) => put(stack, plain(place, primitive)),
-        None => Err(refused(Fault::Unsuited, place)),
+    /// The condition of an `if` or a `while`.
+    fn test(&mut self, place: usize) -> Result<(), Failure<Fault>>
+        ensures { Steps self.old (testing place (entries self.old)) result self.new }
+    {
+        if let Some(value) = self.pop()
+            && value.primitive != Primitive::Bool
+        {
+            return Err(Failure::refused(Fault::Unsuited, place));
+        }
+        Ok(())
     }
 }
 
@@ -175,61 +186,9 @@ fn result_mode(operator: Operator, left: Primitive, right: Primitive) -> Option<
     ensures { primitive_in result ≡ result_of (operator_of operator) (primitive_of left) (primitive_of right) }
 {
     match operator {
-        Operator::Plus | Operator::Times => shared(left, right),
-        Operator::Equal | Operator::Differ => match shared(left, right) {
-            Some(Primitive::Int) => Some(Primitive::Bool),
-            _ => None,
-        },
-    }
-}
-
-/// The primitive mode that both operands have.
-fn shared(left: Primitive, right: Primitive) -> Option<Primitive>
-    ensures { primitive_in result ≡ both (primitive_of left) (primitive_of right) }
-{
-    match (left, right) {
-        (Primitive::Int, Primitive::Int) => Some(Primitive::Int),
-        (Primitive::Bool, Primitive::Bool) => Some(Primitive::Bool),
-        _ => None,
-    }
-}
-
-/// The end of an assignment.
-fn store(stack: &mut Vec<Value>) -> Result<(), ModeError>
-    ensures { Steps (storing (entries stack.old)) result (entries stack.new) }
-{
-    let Some(value) = take(stack) else {
-        return Ok(());
-    };
-    let Some(target) = take(stack) else {
-        return Ok(());
-    };
-    if shared(target.primitive, value.primitive).is_none() {
-        return Err(refused(Fault::OtherPrimitive, target.place));
-    }
-    if reaches(target.refs, value.refs) {
-        Ok(())
-    } else {
-        Err(refused(Fault::TooFewReferences, target.place))
-    }
-}
-
-/// Whether a right side has references enough: one of the target's is the name itself.
-fn reaches(target: u128, value: u128) -> bool
-    ensures { result ≡ nat_le (target - 1) value }
-{
-    target.saturating_sub(1) <= value
-}
-
-/// The condition of an `if` or a `while`.
-fn test(stack: &mut Vec<Value>, place: usize) -> Result<(), ModeError>
-    ensures { Steps (testing place (entries stack.old)) result (entries stack.new) }
-{
-    let Some(value) = take(stack) else {
-        return Ok(());
-    };
-    match value.primitive {
-        Primitive::Bool => Ok(()),
-        Primitive::Int => Err(refused(Fault::Unsuited, place)),
+        Operator::Plus | Operator::Times => (left == right).then_some(left),
+        Operator::Equal | Operator::Differ => {
+            (left == Primitive::Int && right == Primitive::Int).then_some(Primitive::Bool)
+        }
     }
 }

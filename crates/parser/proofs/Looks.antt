@@ -1,13 +1,12 @@
--- The tokens from an index on.
-use Rattle.std.proofs.Common.{◌≡◌, ℕ, ◌+◌, ◌<◌, ◌≤◌, List, [], ◌∷◌, map, length, get_or, sym, ap, ◌∙◌}
-use Rattle.parser.specs.Progress.{rest}
-use Rattle.std.proofs.lemmas.List.{at_drop_more, at_drop_all, drop-map}
+-- The tokens still to be read, behind the first.
+use Rattle.std.proofs.Common.{◌≡◌, ◌-◌, List, [], ◌∷◌, map, length, take, drop, Some, arith, sym, ap, ◌∙◌}
+use Rattle.std.specs.Prelude.{slice_get}
+use Rattle.std.proofs.lemmas.List.{take_all}
 use Rattle.tokens.specs.Tokens.{token_of}
 use Rattle.tokens.specs.declared.token.Token.{Token}
 
-pub rest_more : (ts : List Token) (at : ℕ) (d : Token) → at < length ts → rest ts at ≡ token_of (get_or ts at d) ∷ rest ts (at + 1)
-rest_more ts at d h =
-    drop-map token_of at ts ∙ at_drop_more (map token_of) ts at d h ∙ ap (λ l. token_of (get_or ts at d) ∷ l) (sym (drop-map token_of (at + 1) ts))
-
-pub rest_all : (ts : List Token) (at : ℕ) → length ts ≤ at → rest ts at ≡ []
-rest_all ts at h = drop-map token_of at ts ∙ at_drop_all (map token_of) ts at h
+pub first_left : (xs : List Token) (t : Token) → Some t ≡ slice_get xs 0 → map token_of xs ≡ token_of t ∷ map token_of (take (length xs - 1) (drop 1 xs))
+first_left [] t e = absurd (grind arith)
+first_left (x ∷ xs) t e =
+    let same : x ≡ t = grind arith in
+    ap (λ k. token_of k ∷ map token_of xs) same ∙ ap (λ l. token_of t ∷ map token_of l) (sym (take_all (length (x ∷ xs) - 1) xs (omega arith)))

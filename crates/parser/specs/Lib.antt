@@ -1,7 +1,9 @@
 pub mod Answer
 pub mod Declarations
 pub mod Faults
+pub mod Looks
 pub mod Parsing
+pub mod Parts
 pub mod Progress
 pub mod Statements
 pub mod Trains

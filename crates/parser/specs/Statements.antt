@@ -1,30 +1,34 @@
 -- How far statements have been parsed: the facts that the parser's private functions hand to each other.
-use Rattle.std.specs.Prelude.{◌≡◌, ℕ, ◌+◌, ◌<◌, ◌≤◌, List, [], ◌∷◌, ◌++◌, length, Some, None, Ok, Err, Option, Result}
-use Rattle.grammar.specs.Machine.{Part, then_part, loop_part, Purpose, for_assign, for_choose, for_loop, for_output, State, fresh, inside, wanted, target, input_name, complete, operand}
+use Rattle.std.specs.Prelude.{◌≡◌, ℕ, ◌<◌, ◌≤◌, Bool, true, false, List, [], ◌∷◌, ◌++◌, map, length, Some, None, Ok, Err, Option, Result}
+use Rattle.grammar.specs.Machine.{Part as machine-part, then_part, loop_part, Purpose, for_assign, for_choose, for_loop, for_output, State, fresh, inside, wanted, target, input_name, complete, operand}
 use Rattle.grammar.specs.Tree.{Declared, Expr, Stmt}
-use Rattle.tokens.specs.Tokens.{Kind, Placed}
+use Rattle.refusals.specs.declared.failure.Failure.{Failure}
+use Rattle.refusals.specs.declared.failure.Failure.TheVariants.{Refused, Memory}
+use Rattle.tokens.specs.Tokens.{Kind, Placed, token_of}
 use Rattle.std.specs.Borrow.{Bor}
 use Rattle.tokens.specs.declared.token.Token.{Token}
 use Rattle.tokens.specs.declared.word.Word as words
 use Rattle.tokens.specs.declared.word.Word.TheVariants.{Then, Do}
 use Rattle.outline.specs.Code.{Op, enter, flat, head, postfix, source, test}
+use Rattle.outline.specs.declared.code.Instruction.{Instruction}
+use Rattle.parser.specs.Looks.{Stays, left}
 use Rattle.parser.specs.Parsing.{most_parts, parse, refused}
-use Rattle.parser.specs.Progress.{Around, Fits, NoPlus, has, rest, wants}
-use Rattle.parser.specs.declared.fault.ParseError.{ParseError}
-use Rattle.parser.specs.declared.fault.ParseError.TheVariants.{Refused, Memory}
-use Rattle.parser.specs.declared.statement.Begun.{Begun}
-use Rattle.parser.specs.declared.statement.Begun.TheVariants as begun
+use Rattle.parser.specs.Progress.{Around, Fits, NoPlus, code, has, wants}
+use Rattle.parser.specs.declared.fault.Fault.{Fault}
+use Rattle.parser.specs.declared.parser.Parser.{Parser}
 use Rattle.parser.specs.declared.statement.Opener.{Opener}
 use Rattle.parser.specs.declared.statement.Opener.TheVariants as opener
+use Rattle.parser.specs.declared.train.Part.{Part}
+use Rattle.parser.specs.declared.train.Part.TheVariants as parts
 
 -- the state after the first token of a statement, by what it opens
-abbrev pub opened : List Declared → List Part → List Stmt → ℕ → Opener → Option State
-opened ds parts before p (opener.Name n) = Some (inside ds parts before (target p n.now))
-opened ds parts before p opener.If = Some (inside ds parts before (operand (for_choose p) fresh []))
-opened ds parts before p opener.While = Some (inside ds parts before (operand (for_loop p) fresh []))
-opened ds parts before p opener.Input = Some (inside ds parts before (input_name p))
-opened ds parts before p opener.Output = Some (inside ds parts before (operand (for_output p) fresh []))
-opened ds parts before p opener.Other = None
+abbrev pub opened : List Declared → List machine-part → List Stmt → ℕ → Option Opener → Option State
+opened ds parts before p None = None
+opened ds parts before p (Some (opener.Name n)) = Some (inside ds parts before (target p n.now))
+opened ds parts before p (Some opener.If) = Some (inside ds parts before (operand (for_choose p) fresh []))
+opened ds parts before p (Some opener.While) = Some (inside ds parts before (operand (for_loop p) fresh []))
+opened ds parts before p (Some opener.Input) = Some (inside ds parts before (input_name p))
+opened ds parts before p (Some opener.Output) = Some (inside ds parts before (operand (for_output p) fresh []))
 
 -- the word behind a condition, and the state after it
 abbrev pub ender : Purpose → Option words.Word
@@ -40,46 +44,46 @@ entered k (for_loop p) e = inside k.declared (loop_part p e k.before ∷ k.parts
 entered k (for_output p) e = has k fresh [] e
 
 -- a condition and the word behind it
-pub record Entered (end : ℕ) (w : words.Word) (ts : List Token) (at next : ℕ) (was now : List Op) : Type 0 where
+pub record Entered (end : ℕ) (w : words.Word) (ts us : List Placed) (was now : List Op) : Type 0 where
   pub tree : Expr
-  pub further : at < next
-  pub reads : (k : Around) → Fits k 0 [] → ender k.purpose ≡ Some w → parse end (wants k fresh []) (rest ts at) ≡ parse end (entered k k.purpose tree) (rest ts next)
+  pub further : length us < length ts
+  pub reads : (k : Around) → Fits k 16 [] → ender k.purpose ≡ Some w → parse end (wants k fresh []) ts ≡ parse end (entered k k.purpose tree) us
   pub code : now ≡ was ++ postfix tree
 
-abbrev pub EnteredNot : ℕ → words.Word → List Placed → ParseError → Type 0
-EnteredNot end w ts (Refused x) = (k : Around) → Fits k 0 [] → ender k.purpose ≡ Some w → parse end (wants k fresh []) ts ≡ refused x.fault x.place
-EnteredNot end w ts Memory = Unit {0}
+abbrev pub EnteredNot : ℕ → words.Word → List Placed → Failure Fault → Type 0
+EnteredNot end w ts (Refused x) = (k : Around) → Fits k 16 [] → ender k.purpose ≡ Some w → parse end (wants k fresh []) ts ≡ refused x.fault x.place
+EnteredNot end w ts (Memory e) = Unit {0}
 
-abbrev pub Enters : ℕ → words.Word → List Token → ℕ → List Op → Result ℕ ParseError → List Op → Type 0
-Enters end w ts at was (Ok next) now = Entered end w ts at next was now
-Enters end w ts at was (Err e) now = EnteredNot end w (rest ts at) e
+abbrev pub Enters : words.Word → Parser Instruction → Result (Unit {0}) (Failure Fault) → Parser Instruction → Type 0
+Enters w was (Ok _) now = (now.end ≡ was.end) × Entered was.end w (left was) (left now) (code was) (code now)
+Enters w was (Err e) now = EnteredNot was.end w (left was) e
 
 -- a state for every surrounding of a statement
 abbrev pub Somewhere : Type 0
-Somewhere = List Declared → List Part → List Stmt → State
+Somewhere = List Declared → List machine-part → List Stmt → State
 
 -- from a point of a statement to its end, with no more parts open than the limit
-pub record Ended (end : ℕ) (start : Somewhere) (ts : List Token) (at next : ℕ) (was now : List Op) : Type 0 where
+pub record Ended (end : ℕ) (start : Somewhere) (ts us : List Placed) (was now : List Op) : Type 0 where
   pub statement : Stmt
-  pub further : at < next
-  pub reads : (ds : List Declared) (parts : List Part) (before : List Stmt) → length parts ≤ most_parts → parse end (start ds parts before) (rest ts at) ≡ parse end (inside ds parts before (complete statement)) (rest ts next)
+  pub further : length us < length ts
+  pub reads : (ds : List Declared) (parts : List machine-part) (before : List Stmt) → length parts ≤ most_parts → parse end (start ds parts before) ts ≡ parse end (inside ds parts before (complete statement)) us
   pub code : now ≡ was ++ flat statement
 
-abbrev pub EndedNot : ℕ → Somewhere → List Placed → ParseError → Type 0
-EndedNot end start ts (Refused x) = (ds : List Declared) (parts : List Part) (before : List Stmt) → length parts ≤ most_parts → parse end (start ds parts before) ts ≡ refused x.fault x.place
-EndedNot end start ts Memory = Unit {0}
+abbrev pub EndedNot : ℕ → Somewhere → List Placed → Failure Fault → Type 0
+EndedNot end start ts (Refused x) = (ds : List Declared) (parts : List machine-part) (before : List Stmt) → length parts ≤ most_parts → parse end (start ds parts before) ts ≡ refused x.fault x.place
+EndedNot end start ts (Memory e) = Unit {0}
 
-abbrev pub EndsAs : ℕ → Somewhere → List Token → ℕ → List Op → Result ℕ ParseError → List Op → Type 0
-EndsAs end start ts at was (Ok next) now = Ended end start ts at next was now
-EndsAs end start ts at was (Err e) now = EndedNot end start (rest ts at) e
+abbrev pub EndsAs : Somewhere → Parser Instruction → Result (Unit {0}) (Failure Fault) → Parser Instruction → Type 0
+EndsAs start was (Ok _) now = (now.end ≡ was.end) × Ended was.end start (left was) (left now) (code was) (code now)
+EndsAs start was (Err e) now = EndedNot was.end start (left was) e
 
 -- the first tokens of a statement: all of it, or the beginning of a part
-pub record Parted (end opened : ℕ) (part : ℕ → Expr → List Stmt → Part) (lead : ℕ → Expr → List Op) (ts : List Token) (at next : ℕ) (was now : List Op) : Type 0 where
+pub record Parted (end opened : ℕ) (part : ℕ → Expr → List Stmt → machine-part) (lead : ℕ → Expr → List Op) (ts us : List Placed) (was now : List Op) : Type 0 where
   pub place : ℕ
   pub tree : Expr
-  pub further : at < next
+  pub further : length us < length ts
   pub few : opened < most_parts
-  pub reads : (ds : List Declared) (parts : List Part) (before : List Stmt) → length parts ≡ opened → parse end (inside ds parts before wanted) (rest ts at) ≡ parse end (inside ds (part place tree before ∷ parts) [] wanted) (rest ts next)
+  pub reads : (ds : List Declared) (parts : List machine-part) (before : List Stmt) → length parts ≡ opened → parse end (inside ds parts before wanted) ts ≡ parse end (inside ds (part place tree before ∷ parts) [] wanted) us
   pub code : now ≡ was ++ lead place tree
 
 abbrev pub choice_lead : ℕ → Expr → List Op
@@ -88,51 +92,57 @@ choice_lead p e = postfix e ++ test p ∷ []
 abbrev pub loop_lead : ℕ → Expr → List Op
 loop_lead p e = head p ∷ (postfix e ++ enter p ∷ [])
 
-abbrev pub BeginsAs : ℕ → ℕ → List Token → ℕ → List Op → Begun → ℕ → List Op → Type 0
-BeginsAs end opened ts at was begun.Whole next now = Ended end (λ ds parts before. inside ds parts before wanted) ts at next was now
-BeginsAs end opened ts at was begun.Choice next now = Parted end opened then_part choice_lead ts at next was now
-BeginsAs end opened ts at was begun.Loop next now = Parted end opened loop_part loop_lead ts at next was now
+abbrev pub BeginsAs : ℕ → ℕ → List Placed → List Placed → List Op → List Op → Option Part → Type 0
+BeginsAs end opened ts us was now None = Ended end (λ ds parts before. inside ds parts before wanted) ts us was now
+BeginsAs end opened ts us was now (Some parts.Then) = Parted end opened then_part choice_lead ts us was now
+BeginsAs end opened ts us was now (Some parts.Else) = ⊥
+BeginsAs end opened ts us was now (Some parts.Loop) = Parted end opened loop_part loop_lead ts us was now
 
-abbrev pub BeginsNot : ℕ → ℕ → List Placed → ParseError → Type 0
-BeginsNot end opened ts (Refused x) = (ds : List Declared) (parts : List Part) (before : List Stmt) → length parts ≡ opened → parse end (inside ds parts before wanted) ts ≡ refused x.fault x.place
-BeginsNot end opened ts Memory = Unit {0}
+abbrev pub BeginsNot : ℕ → ℕ → List Placed → Failure Fault → Type 0
+BeginsNot end opened ts (Refused x) = (ds : List Declared) (parts : List machine-part) (before : List Stmt) → length parts ≡ opened → length parts ≤ most_parts → parse end (inside ds parts before wanted) ts ≡ refused x.fault x.place
+BeginsNot end opened ts (Memory e) = Unit {0}
 
-abbrev pub Begins : ℕ → ℕ → List Token → ℕ → List Op → Result (ℕ × Begun) ParseError → List Op → Type 0
-Begins end opened ts at was (Ok x) now = (at < length ts) × BeginsAs end opened ts at was x.1 x.0 now
-Begins end opened ts at was (Err e) now = BeginsNot end opened (rest ts at) e
+abbrev pub Begins : ℕ → Parser Instruction → Result (Option Part) (Failure Fault) → Parser Instruction → Type 0
+Begins opened was (Ok x) now = (now.end ≡ was.end) × BeginsAs was.end opened (left was) (left now) (code was) (code now) x
+Begins opened was (Err e) now = BeginsNot was.end opened (left was) e
 
--- a name that no `*` or `+` follows, or that there is none
-abbrev pub Lone : List Token → ℕ → Option (ℕ × Bor (List ℕ)) → Type 0
-Lone ts at None = (p : ℕ) (n : List ℕ) → rest ts at ≡ record { place = p; kind = Kind.name n } ∷ rest ts (at + 1) → NoPlus (rest ts (at + 1)) → ⊥
-Lone ts at (Some x) = (rest ts at ≡ record { place = x.0; kind = Kind.name x.1.now } ∷ rest ts (at + 1)) × NoPlus (rest ts (at + 1))
+-- whether `*` or `+` stands first
+abbrev pub NoOperator : List Token → Bool → Type 0
+NoOperator ts true = NoPlus (map token_of ts) → ⊥
+NoOperator ts false = NoPlus (map token_of ts)
+
+-- a name that no `*` or `+` follows is taken; or there is none
+abbrev pub TakesLone : Parser Instruction → Option (ℕ × Bor (List ℕ)) → Parser Instruction → Type 0
+TakesLone was None now = ((p : ℕ) (n : List ℕ) (us : List Placed) → left was ≡ record { place = p; kind = Kind.name n } ∷ us → NoPlus us → ⊥) × (now ≡ was)
+TakesLone was (Some x) now = (left was ≡ record { place = x.0; kind = Kind.name x.1.now } ∷ left now) × NoPlus (left now) × Stays was now
 
 -- the right side of an assignment
-pub record Sourced (end : ℕ) (ts : List Token) (at next : ℕ) (was now : List Op) : Type 0 where
+pub record Sourced (end : ℕ) (ts us : List Placed) (was now : List Op) : Type 0 where
   pub tree : Expr
-  pub further : at < next
-  pub reads : (k : Around) → Fits k 0 [] → parse end (wants k fresh []) (rest ts at) ≡ parse end (has k fresh [] tree) (rest ts next)
-  pub stops : NoPlus (rest ts next)
+  pub further : length us < length ts
+  pub reads : (k : Around) → Fits k 16 [] → parse end (wants k fresh []) ts ≡ parse end (has k fresh [] tree) us
+  pub stops : NoPlus us
   pub code : now ≡ was ++ source tree
 
-abbrev pub SourcedNot : ℕ → List Placed → ParseError → Type 0
-SourcedNot end ts (Refused x) = (k : Around) → Fits k 0 [] → parse end (wants k fresh []) ts ≡ refused x.fault x.place
-SourcedNot end ts Memory = Unit {0}
+abbrev pub SourcedNot : ℕ → List Placed → Failure Fault → Type 0
+SourcedNot end ts (Refused x) = (k : Around) → Fits k 16 [] → parse end (wants k fresh []) ts ≡ refused x.fault x.place
+SourcedNot end ts (Memory e) = Unit {0}
 
-abbrev pub Sources : ℕ → List Token → ℕ → List Op → Result ℕ ParseError → List Op → Type 0
-Sources end ts at was (Ok next) now = Sourced end ts at next was now
-Sources end ts at was (Err e) now = SourcedNot end (rest ts at) e
+abbrev pub Sources : Parser Instruction → Result (Unit {0}) (Failure Fault) → Parser Instruction → Type 0
+Sources was (Ok _) now = (now.end ≡ was.end) × Sourced was.end (left was) (left now) (code was) (code now)
+Sources was (Err e) now = SourcedNot was.end (left was) e
 
 -- a part's condition up to the word behind it: from the state after its first token
-pub record Headed (end : ℕ) (u : Purpose) (part : ℕ → Expr → List Stmt → Part) (lead : ℕ → Expr → List Op) (place : ℕ) (ts : List Token) (at next : ℕ) (was now : List Op) : Type 0 where
+pub record Headed (end : ℕ) (u : Purpose) (part : ℕ → Expr → List Stmt → machine-part) (lead : ℕ → Expr → List Op) (place : ℕ) (ts us : List Placed) (was now : List Op) : Type 0 where
   pub tree : Expr
-  pub further : at < next
-  pub reads : (ds : List Declared) (parts : List Part) (before : List Stmt) → length parts < most_parts → parse end (inside ds parts before (operand u fresh [])) (rest ts at) ≡ parse end (inside ds (part place tree before ∷ parts) [] wanted) (rest ts next)
+  pub further : length us < length ts
+  pub reads : (ds : List Declared) (parts : List machine-part) (before : List Stmt) → length parts < most_parts → parse end (inside ds parts before (operand u fresh [])) ts ≡ parse end (inside ds (part place tree before ∷ parts) [] wanted) us
   pub code : now ≡ was ++ lead place tree
 
-abbrev pub HeadedNot : ℕ → Purpose → List Placed → ParseError → Type 0
-HeadedNot end u ts (Refused x) = (ds : List Declared) (parts : List Part) (before : List Stmt) → length parts < most_parts → parse end (inside ds parts before (operand u fresh [])) ts ≡ refused x.fault x.place
-HeadedNot end u ts Memory = Unit {0}
+abbrev pub HeadedNot : ℕ → Purpose → List Placed → Failure Fault → Type 0
+HeadedNot end u ts (Refused x) = (ds : List Declared) (parts : List machine-part) (before : List Stmt) → length parts < most_parts → parse end (inside ds parts before (operand u fresh [])) ts ≡ refused x.fault x.place
+HeadedNot end u ts (Memory e) = Unit {0}
 
-abbrev pub Heads : ℕ → Purpose → (ℕ → Expr → List Stmt → Part) → (ℕ → Expr → List Op) → ℕ → List Token → ℕ → List Op → Result ℕ ParseError → List Op → Type 0
-Heads end u part lead place ts at was (Ok next) now = Headed end u part lead place ts at next was now
-Heads end u part lead place ts at was (Err e) now = HeadedNot end u (rest ts at) e
+abbrev pub Heads : Purpose → (ℕ → Expr → List Stmt → machine-part) → (ℕ → Expr → List Op) → ℕ → Parser Instruction → Result (Unit {0}) (Failure Fault) → Parser Instruction → Type 0
+Heads u part lead place was (Ok _) now = (now.end ≡ was.end) × Headed was.end u part lead place (left was) (left now) (code was) (code now)
+Heads u part lead place was (Err e) now = HeadedNot was.end u (left was) e

@@ -2,33 +2,30 @@
 ghost use Rattle.std.specs.Prelude.{◌≡◌, ℕ, List, []};
 ghost use Rattle.grammar.specs.Machine.{between, in_mode, inside, moding, naming, wanted};
 ghost use Rattle.grammar.specs.Tree as tree;
-ghost use Rattle.outline.specs.Names.{names, primitive_of};
-ghost use Rattle.parser.specs.Declarations.{Declares, Modes, Moding, Names, moded};
+ghost use Rattle.outline.specs.Names.{primitive_of};
+ghost use Rattle.parser.specs.Declarations.{Declares, Modes, Moding, Names, declared, moded};
 ghost use Rattle.tokens.specs.Tokens.{kind_of};
 
-use crate::expression::refuse;
-use crate::fault::{Fault, ParseError};
-use crate::look::{is_sign, token_at};
+use crate::fault::Fault;
+use crate::parser::Parser;
 use outline::declared::{Declared, Primitive};
+use refusals::Failure;
 use tokens::sign::Sign;
-use tokens::token::{Token, TokenKind};
+use tokens::token::TokenKind;
 use tokens::word::Word;
 
 const MOST_REFS: usize = 7;
 
-/// A token of a mode, or none.
+/// A token of a mode.
 #[derive(Clone, Copy)]
 pub(crate) enum ModeWord {
     Ref,
-    Int,
-    Bool,
-    Other,
+    Primitive(Primitive),
 }
 
-/// A mode that has been read, and the index behind it.
+/// A mode that has been read.
 #[derive(Clone, Copy)]
 pub(crate) struct Mode {
-    next: usize,
     refs: usize,
     primitive: Primitive,
 }
@@ -40,147 +37,98 @@ pub(crate) enum After {
     Semicolon,
 }
 
-pub(crate) fn mode_word(kind: TokenKind<'_>) -> ModeWord
+pub(crate) fn mode_word(kind: TokenKind<'_>) -> Option<ModeWord>
     ensures { (ds : List tree.Declared) (refs : ℕ) → in_mode ds refs (kind_of kind.entry) ≡ moded ds refs result }
 {
     match kind {
-        TokenKind::Word(Word::Ref) => ModeWord::Ref,
-        TokenKind::Word(Word::Int) => ModeWord::Int,
-        TokenKind::Word(Word::Bool) => ModeWord::Bool,
-        TokenKind::Word(_) => ModeWord::Other,
-        TokenKind::Sign(_) => ModeWord::Other,
-        TokenKind::Name(_) => ModeWord::Other,
-        TokenKind::Constant(_) => ModeWord::Other,
+        TokenKind::Word(Word::Ref) => Some(ModeWord::Ref),
+        TokenKind::Word(Word::Int) => Some(ModeWord::Primitive(Primitive::Int)),
+        TokenKind::Word(Word::Bool) => Some(ModeWord::Primitive(Primitive::Bool)),
+        TokenKind::Word(_) => None,
+        TokenKind::Sign(_) => None,
+        TokenKind::Name(_) => None,
+        TokenKind::Constant(_) => None,
     }
 }
 
-/// A mode: some `ref`, and `int` or `bool`.
-fn read_mode(tokens: &[Token<'_>], end: usize, at: usize) -> Result<Mode, ParseError>
-    ensures { Modes end tokens.now at result }
-{
-    let mut refs = 0;
-    let mut next = at;
-    loop {
-        let Some(token) = token_at(tokens, next) else {
-            return Err(refuse(Fault::NotAllowed, end));
-        };
-        match mode_word(token.kind) {
-            ModeWord::Ref if refs < MOST_REFS => {
-                refs += 1;
-                next += 1;
+impl<'t, 'a> Parser<'t, 'a, Declared<'a>> {
+    /// All declarations, up to the first token of a statement.
+    pub(crate) fn declarations(&mut self) -> Result<(), Failure<Fault>>
+        ensures { Declares (moding (declared self.old) 0) (λ ds. inside ds [] [] wanted) self.old result self.new }
+    {
+        self.declaration()?;
+        while self.mode_begins() {
+            self.declaration()?;
+        }
+        Ok(())
+    }
+
+    /// One declaration, and its `;`.
+    fn declaration(&mut self) -> Result<(), Failure<Fault>>
+        ensures { Declares (moding (declared self.old) 0) between self.old result self.new }
+    {
+        let mode = self.mode()?;
+        self.names(mode)
+    }
+
+    /// A mode: some `ref`, and `int` or `bool`.
+    fn mode(&mut self) -> Result<Mode, Failure<Fault>>
+        ensures { Modes self.old result self.new }
+    {
+        let mut refs = 0;
+        loop {
+            let token = self.next()?;
+            match mode_word(token.kind) {
+                Some(ModeWord::Ref) if refs < MOST_REFS => refs += 1,
+                Some(ModeWord::Ref) => return Err(Failure::refused(Fault::TooDeep, token.place)),
+                Some(ModeWord::Primitive(primitive)) => return Ok(Mode { refs, primitive }),
+                None => return Err(Failure::refused(Fault::NotAllowed, token.place)),
             }
-            ModeWord::Ref => return Err(refuse(Fault::TooDeep, token.place)),
-            ModeWord::Int => return Ok(Mode {
-                next: next + 1,
-                refs,
-                primitive: Primitive::Int,
-            }),
-            ModeWord::Bool => return Ok(Mode {
-                next: next + 1,
-                refs,
-                primitive: Primitive::Bool,
-            }),
-            ModeWord::Other => return Err(refuse(Fault::NotAllowed, token.place)),
         }
     }
-}
 
-/// One declared name, and the sign behind it.
-fn one_name<'a>(
-    tokens: &[Token<'a>],
-    end: usize,
-    at: usize,
-    refs: usize,
-    primitive: Primitive,
-    declared: &mut Vec<Declared<'a>>,
-) -> Result<After, ParseError>
-    ensures { Names end refs (primitive_of primitive) tokens.now at (names declared.old) result (names declared.new) }
-{
-    let Some(token) = token_at(tokens, at) else {
-        return Err(refuse(Fault::NotAllowed, end));
-    };
-    let TokenKind::Name(name) = token.kind else {
-        return Err(refuse(Fault::NotAllowed, token.place));
-    };
-    let place = token.place;
-    declared.push(Declared {
-        place,
-        name,
-        refs,
-        primitive,
-    })?;
-    let Some(sign) = token_at(tokens, at + 1) else {
-        return Err(refuse(Fault::NotAllowed, end));
-    };
-    if is_sign(sign.kind, Sign::Comma) {
-        Ok(After::Comma)
-    } else if is_sign(sign.kind, Sign::Semicolon) {
-        Ok(After::Semicolon)
-    } else {
-        Err(refuse(Fault::NotAllowed, sign.place))
-    }
-}
-
-/// The names of a declaration, and its `;`.
-fn all_names<'a>(
-    tokens: &[Token<'a>],
-    end: usize,
-    at: usize,
-    refs: usize,
-    primitive: Primitive,
-    declared: &mut Vec<Declared<'a>>,
-) -> Result<usize, ParseError>
-    ensures { Declares end (naming (names declared.old) refs (primitive_of primitive)) tokens.now at between result (names declared.new) }
-{
-    let mut here = at;
-    loop {
-        match one_name(tokens, end, here, refs, primitive, declared)? {
-            After::Comma => here += 2,
-            After::Semicolon => return Ok(here + 2),
+    /// The names of a declaration, and its `;`.
+    fn names(&mut self, mode: Mode) -> Result<(), Failure<Fault>>
+        ensures { Declares (naming (declared self.old) mode.refs (primitive_of mode.primitive)) between self.old result self.new }
+    {
+        loop {
+            match self.name(mode)? {
+                After::Comma => {}
+                After::Semicolon => return Ok(()),
+            }
         }
     }
-}
 
-/// One declaration, and its `;`.
-pub(crate) fn declaration<'a>(
-    tokens: &[Token<'a>],
-    end: usize,
-    at: usize,
-    declared: &mut Vec<Declared<'a>>,
-) -> Result<usize, ParseError>
-    ensures { Declares end (moding (names declared.old) 0) tokens.now at between result (names declared.new) }
-{
-    let mode = read_mode(tokens, end, at)?;
-    all_names(tokens, end, mode.next, mode.refs, mode.primitive, declared)
-}
-
-/// All declarations, up to the first token of a statement.
-pub(crate) fn declarations<'a>(
-    tokens: &[Token<'a>],
-    end: usize,
-    at: usize,
-    declared: &mut Vec<Declared<'a>>,
-) -> Result<usize, ParseError>
-    ensures { Declares end (moding (names declared.old) 0) tokens.now at (λ ds. inside ds [] [] wanted) result (names declared.new) }
-{
-    let mut next = declaration(tokens, end, at, declared)?;
-    while mode_begins(tokens, next) {
-        next = declaration(tokens, end, next, declared)?;
+    /// One declared name, and the sign behind it.
+    fn name(&mut self, mode: Mode) -> Result<After, Failure<Fault>>
+        ensures { Names mode self.old result self.new }
+    {
+        let token = self.next()?;
+        let TokenKind::Name(name) = token.kind else {
+            return Err(Failure::refused(Fault::NotAllowed, token.place));
+        };
+        let declared = Declared {
+            place: token.place,
+            name,
+            refs: mode.refs,
+            primitive: mode.primitive,
+        };
+        self.out.push(declared)?;
+        let sign = self.next()?;
+        match sign.kind {
+            TokenKind::Sign(Sign::Comma) => Ok(After::Comma),
+            TokenKind::Sign(Sign::Semicolon) => Ok(After::Semicolon),
+            _ => Err(Failure::refused(Fault::NotAllowed, sign.place)),
+        }
     }
-    Ok(next)
-}
 
-/// Whether the token at an index begins a mode.
-fn mode_begins(tokens: &[Token<'_>], at: usize) -> bool
-    ensures { Moding tokens.now at result }
-{
-    let Some(token) = token_at(tokens, at) else {
-        return false;
-    };
-    match mode_word(token.kind) {
-        ModeWord::Ref => true,
-        ModeWord::Int => true,
-        ModeWord::Bool => true,
-        ModeWord::Other => false,
+    /// Whether a mode begins here.
+    fn mode_begins(&self) -> bool
+        ensures { Moding self.now result }
+    {
+        match self.rest.first() {
+            Some(token) => mode_word(token.kind).is_some(),
+            None => false,
+        }
     }
 }

@@ -1,57 +1,50 @@
-// Looking at the token at an index.
-ghost use Rattle.std.specs.Prelude.{◌≡◌};
-ghost use Rattle.grammar.specs.Machine.{is_sign, leaf};
-ghost use Rattle.parser.specs.Progress.{Looks, leaf_code, leaf_postfix, rest, sign_first};
+// Taking the next token, of any kind or of a kind that is wanted.
+ghost use Rattle.parser.specs.Looks.{Expects, Nexts, TakesSign};
 ghost use Rattle.tokens.specs.Tokens.{kind_of};
 
-use outline::code::Instruction;
+use crate::fault::Fault;
+use crate::parser::Parser;
+use refusals::Failure;
 use tokens::sign::Sign;
 use tokens::token::{Token, TokenKind};
-use tokens::word::Word;
 
-pub(crate) fn is_sign(kind: TokenKind<'_>, sign: Sign) -> bool
-    ensures { result ≡ is_sign sign (kind_of kind.entry) }
-{
-    match kind {
-        TokenKind::Sign(other) => sign == other,
-        TokenKind::Word(_) => false,
-        TokenKind::Name(_) => false,
-        TokenKind::Constant(_) => false,
+impl<'t, 'a, T> Parser<'t, 'a, T> {
+    /// Takes the next token; where there is none, the source ends early.
+    pub(crate) fn next(&mut self) -> Result<Token<'a>, Failure<Fault>>
+        ensures { Nexts self.old result self.new }
+    {
+        let all = self.rest;
+        let Some(token) = all.first() else {
+            return Err(Failure::refused(Fault::NotAllowed, self.end));
+        };
+        self.rest = &all[1..];
+        Ok(*token)
     }
-}
 
-/// The token at an index, if there is one.
-pub(crate) fn token_at<'a>(tokens: &[Token<'a>], at: usize) -> Option<Token<'a>>
-    ensures { Looks tokens.now at result }
-{
-    if at < tokens.len() {
-        Some(tokens[at])
-    } else {
-        None
+    /// Takes the next token, which must be of this kind.
+    pub(crate) fn expect(&mut self, wanted: TokenKind<'_>) -> Result<(), Failure<Fault>>
+        ensures { Expects (kind_of wanted.entry) self.old result self.new }
+    {
+        let token = self.next()?;
+        if token.kind == wanted {
+            Ok(())
+        } else {
+            Err(Failure::refused(Fault::NotAllowed, token.place))
+        }
     }
-}
 
-/// The place of the token at `at`, if it is this sign.
-pub(crate) fn sign_at(tokens: &[Token<'_>], at: usize, sign: Sign) -> Option<usize>
-    ensures { result ≡ sign_first sign (rest tokens.now at) }
-{
-    match token_at(tokens, at) {
-        Some(token) if is_sign(token.kind, sign) => Some(token.place),
-        Some(_) => None,
-        None => None,
-    }
-}
-
-/// A name or a constant as the step that gives its value.
-pub(crate) fn leaf_of<'a>(place: usize, kind: TokenKind<'a>) -> Option<Instruction<'a>>
-    ensures { leaf_code result ≡ leaf_postfix (leaf (kind_of kind.entry) place) }
-{
-    match kind {
-        TokenKind::Name(name) => Some(Instruction::Load(place, name)),
-        TokenKind::Constant(value) => Some(Instruction::Number(place, value)),
-        TokenKind::Word(Word::True) => Some(Instruction::Truth(place, true)),
-        TokenKind::Word(Word::False) => Some(Instruction::Truth(place, false)),
-        TokenKind::Word(_) => None,
-        TokenKind::Sign(_) => None,
+    /// Takes the next token if it is this sign, and tells its place.
+    pub(crate) fn take_sign(&mut self, sign: Sign) -> Option<usize>
+        ensures { TakesSign sign self.old result self.new }
+    {
+        let all = self.rest;
+        let Some(token) = all.first() else {
+            return None;
+        };
+        if token.kind != TokenKind::Sign(sign) {
+            return None;
+        }
+        self.rest = &all[1..];
+        Some(token.place)
     }
 }

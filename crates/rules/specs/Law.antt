@@ -17,3 +17,10 @@ pub record Law (greatest : ℕ) (sum prod : ℕ → ℕ → Option ℕ) : Type 0
   pub most : greatest ≤ 2147483647
   pub total : Keeps greatest ◌+◌ sum
   pub product : Keeps greatest ◌*◌ prod
+
+-- what a rule that looks at nothing but the exact result owes: what it gives is never above the greatest value, and an exact result that is not above it is given
+pub record Gives (greatest : ℕ) (given : ℕ → Option ℕ) : Type 0 where
+  pub some : 1 ≤ greatest
+  pub most : greatest ≤ 2147483647
+  pub within : (exact n : ℕ) → given exact ≡ Some n → n ≤ greatest
+  pub faithful : (exact : ℕ) → exact ≤ greatest → given exact ≡ Some exact

@@ -15,16 +15,16 @@ pub enum Cause {
 
 /// The total of two numbers under the rule `R`, or the cause.
 pub fn try_total<R: NumberRule>(a: u32, b: u32) -> Result<u32, Cause>
-    ensures defined { result ≡ ok_or (R.NumberRule.sum a b) Total }
-    ensures lawful { Answers R.NumberRule.greatest ◌+◌ a b result }
+    ensures defined { result ≡ ok_or (R.sum a b) Total }
+    ensures lawful { Answers R.GREATEST ◌+◌ a b result }
 {
     R::total(a, b).ok_or(Cause::Total)
 }
 
 /// The product of two numbers under the rule `R`, or the cause.
 pub fn try_product<R: NumberRule>(a: u32, b: u32) -> Result<u32, Cause>
-    ensures defined { result ≡ ok_or (R.NumberRule.prod a b) Product }
-    ensures lawful { Answers R.NumberRule.greatest ◌*◌ a b result }
+    ensures defined { result ≡ ok_or (R.prod a b) Product }
+    ensures lawful { Answers R.GREATEST ◌*◌ a b result }
 {
     R::product(a, b).ok_or(Cause::Product)
 }

@@ -1,38 +1,52 @@
-// From two operands to an exact result, and from that to what a rule gives.
-ghost use Rattle.std.specs.Prelude.{◌≡◌, ◌^◌, ◌<◌, ◌≤◌, ◌&&◌, if◌then◌else◌, Some, None, nat_le};
-ghost use Rattle.rules.specs.Delivered.{capped, strict, turning};
+// Rules that are known by what they give for an exact result.
+ghost use Rattle.std.specs.Prelude.{◌≡◌, ◌+◌, ◌*◌, ℕ, ◌&&◌, if◌then◌else◌, nat_le, Some, None, Option as Maybe};
+ghost use Rattle.rules.specs.Delivered.{under};
+ghost use Rattle.rules.specs.Law.{Gives};
+ghost use Rattle.std.proofs.Common.{rules};
+
+use crate::rule::NumberRule;
+
+/// A rule that looks at nothing but the exact result, once both operands are at most its greatest value.
+pub trait ExactRule {
+    /// The rule's greatest value, from 1 to 2,147,483,647: its `GREATEST`.
+    const LIMIT: u32;
+
+    ghost LIMIT: { ℕ };
+
+    ghost given: { ℕ → Maybe ℕ };
+
+    /// What the rule gives for an exact result.
+    fn give(exact: u64) -> Option<u32>
+        ensures { result ≡ given exact };
+
+    ghost gives: { Gives LIMIT given };
+}
+
+impl<R: ExactRule> NumberRule for R {
+    const GREATEST: u32 = R::LIMIT;
+
+    ghost GREATEST = { R.LIMIT };
+
+    ghost sum = { under R.LIMIT R.given ◌+◌ };
+
+    ghost prod = { under R.LIMIT R.given ◌*◌ };
+
+    fn total(a: u32, b: u32) -> Option<u32> {
+        let (a, b) = operands(a, b, R::LIMIT)?;
+        R::give(a + b)
+    }
+
+    fn product(a: u32, b: u32) -> Option<u32> {
+        let (a, b) = operands(a, b, R::LIMIT)?;
+        R::give(a * b)
+    }
+
+    ghost lawful = { Prim.search rules };
+}
 
 /// Both operands in 64 bits, so that their total and their product are exact; none if one is above the greatest value.
-pub(crate) fn operands(a: u32, b: u32, greatest: u32) -> Option<(u64, u64)>
+fn operands(a: u32, b: u32, greatest: u32) -> Option<(u64, u64)>
     ensures { result ≡ (if nat_le a greatest && nat_le b greatest then Some (a, b) else None) }
 {
-    if a > greatest || b > greatest {
-        return None;
-    }
-    Some((u64::from(a), u64::from(b)))
-}
-
-/// An exact result, or none above the greatest value.
-pub(crate) fn up_to(greatest: u32, exact: u64) -> Option<u32>
-    ensures { result ≡ strict greatest exact }
-{
-    if exact <= u64::from(greatest) {
-        Some(exact as u32)
-    } else {
-        None
-    }
-}
-
-/// An exact result, or the greatest value above it.
-pub(crate) fn cap(greatest: u32, exact: u64) -> Option<u32>
-    ensures { result ≡ capped greatest exact }
-{
-    Some(exact.min(u64::from(greatest)) as u32)
-}
-
-/// The remainder of an exact result by one more than the greatest value.
-pub(crate) fn turn(greatest: u32, exact: u64) -> Option<u32>
-    ensures { result ≡ turning greatest exact }
-{
-    Some((exact % (u64::from(greatest) + 1)) as u32)
+    (a <= greatest && b <= greatest).then_some((u64::from(a), u64::from(b)))
 }

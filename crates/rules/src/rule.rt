@@ -7,15 +7,11 @@ pub trait NumberRule {
     /// The greatest value, from 1 to 2,147,483,647.
     const GREATEST: u32;
 
-    ghost greatest: { ℕ };
+    ghost GREATEST: { ℕ };
 
     ghost sum: { ℕ → ℕ → Maybe ℕ };
 
     ghost prod: { ℕ → ℕ → Maybe ℕ };
-
-    /// `GREATEST`, for generic code: a contract cannot name a constant of a type parameter.
-    fn greatest_value() -> u32
-        ensures { result ≡ greatest };
 
     /// The total of two numbers, if the rule gives one.
     fn total(a: u32, b: u32) -> Option<u32>
@@ -25,5 +21,5 @@ pub trait NumberRule {
     fn product(a: u32, b: u32) -> Option<u32>
         ensures { result ≡ prod a b };
 
-    ghost lawful: { Law greatest sum prod };
+    ghost lawful: { Law GREATEST sum prod };
 }

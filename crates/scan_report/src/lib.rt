@@ -1,13 +1,14 @@
 // The report on the tokens of a source, as text.
 #![tactic(auto)]
 
-ghost use Rattle.std.specs.Prelude.{◌≡◌, ◌++◌, map, IfOk, string_bytes, OnOk};
-ghost use Rattle.scan_report.specs.Report.{line, report_of};
-ghost use Rattle.tokens.specs.Reading.{read, reading, refused as refused-for};
+ghost use Rattle.std.specs.Prelude.{◌≡◌, map, IfOk, string_bytes, Some};
+ghost use Rattle.scan_report.specs.Report.{entry, report_of};
+ghost use Rattle.tokens.specs.Reading.{read, reading};
 ghost use Rattle.tokens.specs.Tokens.{token_of};
 
+use refusals::Failure;
 use std::alloc::{AllocError, Global};
-use tokens::fault::{ReadError, Refusal};
+use std::fmt;
 use tokens::read_tokens;
 use tokens::token::{Token, TokenKind};
 
@@ -17,17 +18,9 @@ pub fn report(heap: Global, source: &[u8]) -> Result<String, AllocError>
 {
     match read_tokens(heap, source) {
         Ok(tokens) => accepted(heap, tokens.as_slice()),
-        Err(ReadError::Refused(refusal)) => refused(heap, refusal),
-        Err(ReadError::Memory) => Err(AllocError),
+        Err(Failure::Refused(refusal)) => format!(in heap; "{refusal}\n"),
+        Err(Failure::Memory(error)) => Err(error),
     }
-}
-
-fn refused(heap: Global, refusal: Refusal) -> Result<String, AllocError>
-    ensures { IfOk result (λ s. string_bytes s ≡ report_of (refused-for refusal.fault refusal.place)) }
-{
-    let number = refusal.fault.number();
-    let place = refusal.place;
-    format!(in heap; "refused {number} {place}\n")
 }
 
 fn accepted(heap: Global, tokens: &[Token<'_>]) -> Result<String, AllocError>
@@ -35,33 +28,27 @@ fn accepted(heap: Global, tokens: &[Token<'_>]) -> Result<String, AllocError>
 {
     let mut out = String::new(heap);
     for token in tokens {
-        add_line(&mut out, token)?;
+        writeln!(out, "{}", Entry(token))?;
     }
     let count = tokens.len();
-    match write!(out, "accepted {count} tokens\n") {
-        Ok(()) => Ok(out),
-        Err(_) => Err(AllocError),
-    }
+    writeln!(out, "accepted {count} tokens")?;
+    Ok(out)
 }
 
-fn add_line(out: &mut String, token: &Token<'_>) -> Result<(), AllocError>
-    ensures { OnOk result (string_bytes out.new ≡ string_bytes out.old ++ line (token_of token.now)) }
-{
-    let place = token.place;
-    let written = match token.kind {
-        TokenKind::Word(word) => {
-            let text = word.text();
-            write!(out, "{place} word {text}\n")
+/// A token as the report has it: `PLACE KIND TEXT`.
+#[derive(Drop)]
+struct Entry<'t, 'a>(&'t Token<'a>);
+
+impl fmt::Display for Entry<'_, '_> {
+    ghost output = { λ e. Some (entry (token_of e.0.now)) };
+
+    fn fmt<W: fmt::Write>(&self, f: &mut fmt::Formatter<W>) -> fmt::Result {
+        let place = self.0.place;
+        match self.0.kind {
+            TokenKind::Word(word) => write!(f, "{place} word {word}"),
+            TokenKind::Sign(sign) => write!(f, "{place} sign {sign}"),
+            TokenKind::Name(name) => write!(f, "{place} name {name}"),
+            TokenKind::Constant(value) => write!(f, "{place} constant {value}"),
         }
-        TokenKind::Sign(sign) => {
-            let text = sign.text();
-            write!(out, "{place} sign {text}\n")
-        }
-        TokenKind::Name(name) => write!(out, "{place} name {name}\n"),
-        TokenKind::Constant(value) => write!(out, "{place} constant {value}\n"),
-    };
-    match written {
-        Ok(()) => Ok(()),
-        Err(_) => Err(AllocError),
     }
 }

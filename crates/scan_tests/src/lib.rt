@@ -7,6 +7,7 @@ mod tests {
     use std::process::Abort;
     use std::test::Fail;
 
+    // The table and its loop stand in `judge_tests` too: for both they would be a crate of their own, for a loop of three lines.
     struct Case {
         source: &'static str,
         report: &'static str,

@@ -1,5 +1,5 @@
 -- The judge's verdict is right in the words of the language.
-use Rattle.std.proofs.Common.{◌≡◌, ℕ, ◌≤◌, Bool, true, false, cond, ltb, ◌⊎◌, List, [], ◌∷◌, ◌++◌, length, Some, None, Ok, Err, Result, sym, refl, ap, ◌∙◌, subst, inl, inr, arith}
+use Rattle.std.proofs.Common.{◌≡◌, ℕ, ◌≤◌, Bool, true, false, cond, ltb, ◌⊎◌, List, [], ◌∷◌, ◌++◌, length, Some, None, Ok, Err, Result, MatchResult, map, vec_items, Vec, sym, refl, ap, ◌∙◌, subst, inl, inr, arith}
 use Rattle.grammar.proofs.Grammatical.{grammatical}
 use Rattle.grammar.proofs.Programs.{go_append}
 use Rattle.grammar.specs.Machine.{go, opening, program_of}
@@ -8,7 +8,9 @@ use Rattle.modes.proofs.Modal.{stands}
 use Rattle.modes.specs.Declaring as declarations
 use Rattle.modes.specs.Declaring.{declaring, first}
 use Rattle.modes.specs.Judging.{judge_train}
-use Rattle.outline.specs.Code.{Op, flats}
+use Rattle.outline.specs.Code.{Op, flats, ops}
+use Rattle.outline.specs.declared.Outline.{Outline}
+use Rattle.parser.specs.Answer as parsed-as
 use Rattle.parser.specs.Parsing as parsing
 use Rattle.parser.specs.Parsing.{most_parts, parse}
 use Rattle.parser.specs.declared.fault.Fault as grammar
@@ -20,14 +22,18 @@ use Rattle.sheet.specs.Law.{Denied, Lawful, Misplaced, Nested, Passes}
 use Rattle.sheet.specs.declared.Sheet.{Sheet}
 use Rattle.sheet.specs.declared.fault.Fault.{Fault}
 use Rattle.sheet.specs.declared.fault.Fault.TheVariants.{Text, Grammar, Modes}
-use Rattle.sheet.specs.declared.fault.JudgeError.{JudgeError}
-use Rattle.sheet.specs.declared.fault.JudgeError.TheVariants.{Refused, Memory}
+use Rattle.refusals.specs.declared.failure.Failure.{Failure}
+use Rattle.refusals.specs.declared.failure.Failure.TheVariants.{Refused, Memory}
 use Rattle.modes.specs.Flatly.{flatly}
 use Rattle.outline.specs.Names.{names}
 use Rattle.std.proofs.lemmas.Bool.{cond-false, le-ltb, ltb-true, ltb-false}
+use Rattle.std.specs.declared.alloc.Global.{Global}
+use Rattle.tokens.specs.Answer as read-as
 use Rattle.tokens.specs.Reading as texts
 use Rattle.tokens.specs.Reading.{reading}
-use Rattle.tokens.specs.Tokens.{Placed, placed}
+use Rattle.tokens.specs.Tokens.{Placed, placed, token_of}
+use Rattle.tokens.specs.declared.fault.Fault as text
+use Rattle.tokens.specs.declared.token.Token.{Token}
 use Rattle.sheet.proofs.Parsed.{Stuck, Early, Deeper, no_memory, parse_deep, parse_good, parse_passed, parse_stuck}
 
 -- what each phase has found where a source is passed
@@ -141,31 +147,56 @@ denied memory source f q all = by_memory (ltb memory most_parts) refl all
     by_memory false is e = by_reading (ltb-false memory most_parts is) (reading source) refl e
 
 -- from what the phases of the code found
-pub found : {memory : ℕ} {source : List ℕ} {ts : List Placed} {ds : List Declared} {code : List Op} (body : Train) → most_parts ≤ memory → reading source ≡ texts.read ts → parsing.parsing memory (length source) ts ≡ parsing.passed (record { declared = ds; body = body }) → code ≡ flats body → declaring ds ≡ None → flatly ds [] code ≡ None → Stages memory source (record { declared = ds; body = body }) ts
-found {memory} {source} {ts} {ds} {code} body room read parsed coded declared judged = record {
-  room = room;
-  read = read;
-  parsed = sym (cond-false _ _ _ (le-ltb memory most_parts room)) ∙ parsed;
-  declared = declared;
-  judged = sym (stands.flattened ds body) ∙ ap (flatly ds []) (sym coded) ∙ judged;
-}
-
 pub staged : {memory : ℕ} {source : List ℕ} {p : Program} {ts : List Placed} → Stages memory source p ts → judging memory source ≡ passed p ts
 staged {memory} {source} {p} {ts} s =
     cond-false _ _ _ (le-ltb memory most_parts s.room) ∙ ap (λ v. after_reading v (length source)) s.read ∙ ap (λ v. after_parsing v ts) s.parsed ∙ ap (λ v. after_declaring (first v (judge_train p.declared p.body)) p ts) s.declared ∙ ap (λ v. after_declaring v p ts) s.judged
 
--- the third or fourth phase refuses
-pub checked : (memory : ℕ) (source : List ℕ) (ts : List Placed) (ds : List Declared) (code : List Op) (body : Train) (e : JudgeError) → most_parts ≤ memory → reading source ≡ texts.read ts → parsing.parsing memory (length source) ts ≡ parsing.passed (record { declared = ds; body = body }) → code ≡ flats body → Checks ds code (Err e) → Answers (judging memory source) (Err e)
-checked memory source ts ds code body (Refused x) room read parsed coded bad =
-    cond-false _ _ _ (le-ltb memory most_parts room) ∙ ap (λ v. after_reading v (length source)) read ∙ ap (λ v. after_parsing v ts) (sym (cond-false _ _ _ (le-ltb memory most_parts room)) ∙ parsed) ∙ ap (λ v. after_declaring (first (declaring ds) v) (record { declared = ds; body = body }) ts) (sym (stands.flattened ds body) ∙ ap (flatly ds []) (sym coded)) ∙ bad (record { declared = ds; body = body }) ts
-checked memory source ts ds code body Memory room read parsed coded bad = tt
-
 pub correct : {memory : ℕ} {source : List ℕ} {ts : List Placed} {ds : List Declared} {code : List Op} {body : Train} → Stages memory source (record { declared = ds; body = body }) ts → code ≡ flats body → Correct ts ds code
 correct {body = body} s coded = record { body = body; good = good s; code = coded }
 
-pub lawful : (memory : ℕ) (source : List ℕ) (r : Result Sheet JudgeError) → Answers (judging memory source) r → Lawful memory source r
+pub lawful : (memory : ℕ) (source : List ℕ) (r : Result Sheet (Failure Fault)) → Answers (judging memory source) r → Lawful memory source r
 lawful memory source (Ok s) a =
     let k = stages memory source _ _ a.1 in
     (k.room, k.read, (placed s.tokens, record { declared = names s.outline.declared; body = a.0 }, k.read, good k))
 lawful memory source (Err (Refused x)) a = denied memory source x.fault x.place a
-lawful memory source (Err Memory) a = tt
+lawful memory source (Err (Memory x)) a = tt
+
+-- where only errors are widened, the answer is what it was
+unwidened : {T E : Type 0} (r : Result T E) (x : T) → MatchResult r (λ y. ◌≡◌ {A = Result T (Failure Fault)} (Ok x) (Ok y)) (λ e. ⊥) → r ≡ Ok x
+unwidened (Ok y) x same = grind arith
+unwidened (Err e) x same = absurd same
+
+-- the first two phases have passed
+pub record Read (memory : ℕ) (source : List ℕ) (tokens : Vec Token Global) (outline : Outline) : Type 0 where
+  pub room : most_parts ≤ memory
+  pub read : reading source ≡ texts.read (placed tokens)
+  pub body : Train
+  pub parsed : parsing.parsing memory (length source) (placed tokens) ≡ parsing.passed (record { declared = names outline.declared; body = body })
+  pub code : ops outline.code ≡ flats body
+
+pub phases_read : {memory : ℕ} {source : List ℕ} (tokens : Vec Token Global) (outline : Outline) (r : Result (Vec Token Global) (Failure text.Fault)) (l : List Token) (q : Result Outline (Failure grammar.Fault)) → most_parts ≤ memory → read-as.Answers (reading source) r → MatchResult r (λ y. ◌≡◌ {A = Result (Vec Token Global) (Failure Fault)} (Ok tokens) (Ok y)) (λ e. ⊥) → l ≡ vec_items tokens → parsed-as.Answers (parsing.parsing memory (length source) (map token_of l)) q → MatchResult q (λ y. ◌≡◌ {A = Result Outline (Failure Fault)} (Ok outline) (Ok y)) (λ e. ⊥) → Read memory source tokens outline
+phases_read {memory} {source} tokens outline r l q room read kept same parsed kept' =
+    let answered = subst (parsed-as.Answers (parsing.parsing memory (length source) (placed tokens))) (unwidened q outline kept') (subst (λ ts. parsed-as.Answers (parsing.parsing memory (length source) (map token_of ts)) q) same parsed) in
+    record { room = room; read = subst (read-as.Answers (reading source)) (unwidened r tokens kept) read; body = answered.0; parsed = answered.1; code = answered.2 }
+
+-- then the third and the fourth phase, on the outline
+module _ {memory : ℕ} {source : List ℕ} {tokens : Vec Token Global} {outline : Outline} (r : Read memory source tokens outline) where
+  abbrev program : Program
+  program = record { declared = names outline.declared; body = r.body }
+
+  parsed_at_once : parse (length source) opening (placed tokens) ≡ parsing.passed program
+  parsed_at_once = sym (cond-false _ _ _ (le-ltb memory most_parts r.room)) ∙ r.parsed
+
+  pub found : Checks (names outline.declared) (ops outline.code) (Ok tt) → Stages memory source program (placed tokens)
+  found c = record {
+    room = r.room;
+    read = r.read;
+    parsed = parsed_at_once;
+    declared = c.0;
+    judged = sym (stands.flattened (names outline.declared) r.body) ∙ ap (flatly (names outline.declared) []) (sym r.code) ∙ c.1;
+  }
+
+  pub checked : (e : Failure Fault) → Checks (names outline.declared) (ops outline.code) (Err e) → Answers (judging memory source) (Err e)
+  checked (Refused x) bad =
+      cond-false _ _ _ (le-ltb memory most_parts r.room) ∙ ap (λ v. after_reading v (length source)) r.read ∙ ap (λ v. after_parsing v (placed tokens)) parsed_at_once ∙ ap (λ v. after_declaring (first (declaring (names outline.declared)) v) program (placed tokens)) (sym (stands.flattened (names outline.declared) r.body) ∙ ap (flatly (names outline.declared) []) (sym r.code)) ∙ bad program (placed tokens)
+  checked (Memory x) bad = tt

@@ -1,10 +1,11 @@
 -- The statements of a tree are counted on its code.
-use Rattle.std.proofs.Common.{◌≡◌, ℕ, ◌+◌, ◌<◌, ◌≤◌, List, [], ◌∷◌, ◌++◌, map, length, get_or, drop, refl, ap, ◌∙◌, arith}
+use Rattle.std.proofs.Common.{◌≡◌, ℕ, ◌+◌, Bool, true, false, cond, List, [], ◌∷◌, ◌++◌, map, refl, ap, ◌∙◌, arith}
 use Rattle.grammar.specs.Tree.{Expr, variable, number, truth, binary, group, Stmt, assign, choose, choose_else, loop, input, output, Train, last, more}
 use Rattle.outline.specs.Code.{Op, apply, enter, flat, flats, join, op_of, otherwise, postfix, repeat, source, store, test, write}
 use Rattle.outline.specs.declared.code.Instruction.{Instruction}
-use Rattle.std.proofs.lemmas.List.{at_drop_more, at_drop_all}
-use Rattle.sheet.specs.Sizes.{counted, counts, size, size_of}
+use Rattle.std.proofs.lemmas.List.Recursion.{is_count_by}
+use Rattle.std.specs.List.{count_by}
+use Rattle.sheet.specs.Sizes.{counted, size, size_of, stands_for_one}
 
 counted_both : (a b : List Op) → counted (a ++ b) ≡ counted a + counted b
 counted_both [] b = omega arith
@@ -44,9 +45,9 @@ mutual
 pub sized : (code : List Op) (t : Train) → code ≡ flats t → counted code ≡ size t
 sized code t e = ap counted e ∙ counted_all t
 
--- one step of the loop, and its end
-pub count_more : (is : List Instruction) (i n m : ℕ) (d : Instruction) → i < length is → n + counted (map op_of (drop i is)) ≡ counted (map op_of is) → m ≡ counts (op_of (get_or is i d)) → n + m + counted (map op_of (drop (i + 1) is)) ≡ counted (map op_of is)
-count_more is i n m d h e f = omega (arith, at_drop_more (λ l. counted (map op_of l)) is i d h)
+one_more : (b : Bool) (n : ℕ) → cond b 1 0 + n ≡ cond b (1 + n) n
+one_more true n = omega arith
+one_more false n = omega arith
 
-pub count_all : (is : List Instruction) (i n : ℕ) → length is ≤ i → n + counted (map op_of (drop i is)) ≡ counted (map op_of is) → n ≡ counted (map op_of is)
-count_all is i n h e = omega (arith, at_drop_all (λ l. counted (map op_of l)) is i h)
+pub counted_code : (is : List Instruction) → counted (map op_of is) ≡ count_by (λ i. stands_for_one (op_of i)) is
+counted_code is = is_count_by (λ js. counted (map op_of js)) (λ i. stands_for_one (op_of i)) refl (λ j js. one_more (stands_for_one (op_of j)) (counted (map op_of js))) is

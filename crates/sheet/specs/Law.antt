@@ -12,8 +12,8 @@ use Rattle.sheet.specs.Correct.{Good, Shallow}
 use Rattle.sheet.specs.declared.Sheet.{Sheet}
 use Rattle.sheet.specs.declared.fault.Fault.{Fault}
 use Rattle.sheet.specs.declared.fault.Fault.TheVariants.{Text, Grammar, Modes}
-use Rattle.sheet.specs.declared.fault.JudgeError.{JudgeError}
-use Rattle.sheet.specs.declared.fault.JudgeError.TheVariants.{Refused, Memory}
+use Rattle.refusals.specs.declared.failure.Failure.{Failure}
+use Rattle.refusals.specs.declared.failure.Failure.TheVariants.{Refused, Memory}
 
 -- the source is read as tokens of a program that grammar, limits and modes allow
 abbrev pub Passes : List ℕ → Type 0
@@ -40,7 +40,7 @@ Denied memory source (Modes f) p = (most_parts ≤ memory) × (Passes source →
 
 -- a passed sheet has the source's tokens, and the source passes; a refused source does not pass, and a refusal of the
 -- second phase stands where the grammar or the limits are first broken
-abbrev pub Lawful : ℕ → List ℕ → Result Sheet JudgeError → Type 0
+abbrev pub Lawful : ℕ → List ℕ → Result Sheet (Failure Fault) → Type 0
 Lawful memory source (Ok s) = (most_parts ≤ memory) × (reading source ≡ read (placed s.tokens)) × Passes source
 Lawful memory source (Err (Refused x)) = Denied memory source x.fault x.place
-Lawful memory source (Err Memory) = Unit {0}
+Lawful memory source (Err (Memory e)) = Unit {0}

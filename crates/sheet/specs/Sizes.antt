@@ -1,5 +1,5 @@
 -- How many statements a sheet has, and what its parts are.
-use Rattle.std.specs.Prelude.{ℕ, ◌+◌, List, [], ◌∷◌, vec_items}
+use Rattle.std.specs.Prelude.{ℕ, ◌+◌, Bool, true, false, cond, List, [], ◌∷◌, vec_items}
 use Rattle.grammar.specs.Tree as tree
 use Rattle.grammar.specs.Tree.{Stmt, assign, choose, choose_else, loop, input, output, Train, last, more}
 use Rattle.outline.specs.Code.{Op, load, push, push_truth, apply, target, refer, store, test, otherwise, join, head, enter, repeat, read, write, ops}
@@ -21,27 +21,28 @@ abbrev mutual
   size (last s) = size_of s
   size (more s t) = size_of s + size t
 
--- the same on the code: one step of each statement
-abbrev pub counts : Op → ℕ
-counts (load p n) = 0
-counts (push p n) = 0
-counts (push_truth p b) = 0
-counts (apply p o) = 0
-counts (target p n) = 0
-counts (refer p n) = 0
-counts store = 1
-counts (test p) = 1
-counts otherwise = 0
-counts join = 0
-counts (head p) = 1
-counts (enter p) = 0
-counts repeat = 0
-counts (read p q n) = 1
-counts (write p) = 1
+-- the step of the code that each statement has once
+abbrev pub stands_for_one : Op → Bool
+stands_for_one (load p n) = false
+stands_for_one (push p n) = false
+stands_for_one (push_truth p b) = false
+stands_for_one (apply p o) = false
+stands_for_one (target p n) = false
+stands_for_one (refer p n) = false
+stands_for_one store = true
+stands_for_one (test p) = true
+stands_for_one otherwise = false
+stands_for_one join = false
+stands_for_one (head p) = true
+stands_for_one (enter p) = false
+stands_for_one repeat = false
+stands_for_one (read p q n) = true
+stands_for_one (write p) = true
 
+-- how many such steps there are
 abbrev pub counted : List Op → ℕ
 counted [] = 0
-counted (o ∷ os) = counts o + counted os
+counted (o ∷ os) = cond (stands_for_one o) 1 0 + counted os
 
 -- the declared names and the code of a sheet
 abbrev pub declared_in : Sheet → List Declared

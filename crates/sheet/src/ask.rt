@@ -1,8 +1,9 @@
 // What a sheet can be asked.
-ghost use Rattle.std.specs.Prelude.{◌≡◌, ◌≤◌, map};
+ghost use Rattle.std.specs.List.{count_by};
+ghost use Rattle.std.specs.Prelude.{◌≡◌};
 ghost use Rattle.grammar.specs.Tree.{Train};
 ghost use Rattle.outline.specs.Code.{flats, op_of};
-ghost use Rattle.sheet.specs.Sizes.{code_in, counted, counts, declared_in, size};
+ghost use Rattle.sheet.specs.Sizes.{code_in, declared_in, size, stands_for_one};
 
 use crate::Sheet;
 use outline::code::Instruction;
@@ -33,23 +34,21 @@ impl<'a> Sheet<'a> {
 }
 
 fn count_statements(code: &[Instruction<'_>]) -> usize
-    ensures { result ≡ counted (map op_of code.now) }
+    ensures { result ≡ count_by (λ step. stands_for_one (op_of step)) code.now }
 {
-    let mut count = 0;
-    for instruction in code {
-        count += counts_as(instruction);
-    }
-    count
+    code.iter().filter(|step| stands_for_one(step)).count()
 }
 
-/// One for the step that each statement has once, 0 for any other.
-fn counts_as(instruction: &Instruction<'_>) -> usize
-    ensures value { result ≡ counts (op_of instruction.now) }
-    ensures small { result ≤ 1 }
+/// Whether this is the step that each statement has once.
+fn stands_for_one(step: &Instruction<'_>) -> bool
+    ensures { result ≡ stands_for_one (op_of step.now) }
 {
-    match instruction {
-        Instruction::Store | Instruction::Test(_) | Instruction::Head(_) => 1,
-        Instruction::Read(_, _, _) | Instruction::Write(_) => 1,
-        _ => 0,
-    }
+    matches!(
+        step,
+        Instruction::Store
+            | Instruction::Test(_)
+            | Instruction::Head(_)
+            | Instruction::Read(_, _, _)
+            | Instruction::Write(_)
+    )
 }

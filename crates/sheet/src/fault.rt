@@ -1,20 +1,22 @@
 // Why a source is not passed as a sheet.
 ghost use Rattle.std.specs.Prelude.{◌≡◌};
 ghost use Rattle.sheet.specs.Faults.{number_of};
+ghost use Rattle.sheet.specs.declared.fault.Fault.TheVariants as fault;
+
+use refusals::Numbered;
 
 /// The fault of the phase that met it: of the bytes and tokens, of grammar and nesting, of declarations and modes.
-#[derive(Clone, Copy)]
+#[derive(Clone, Copy, PartialEq, Eq, Debug)]
 pub enum Fault {
     Text(tokens::fault::Fault),
     Grammar(parser::fault::Fault),
     Modes(modes::fault::Fault),
 }
 
-impl Fault {
-    /// The number by which a refusal tells the fault.
-    pub fn number(self) -> u8
-        ensures { result ≡ number_of self }
-    {
+impl Numbered for Fault {
+    ghost number_of = { number_of };
+
+    fn number(self) -> u8 {
         match self {
             Fault::Text(fault) => fault.number(),
             Fault::Grammar(fault) => fault.number(),
@@ -23,16 +25,26 @@ impl Fault {
     }
 }
 
-/// A fault with its place: the offset in the source of the first byte of what is at fault.
-#[derive(Clone, Copy)]
-pub struct Refusal {
-    pub fault: Fault,
-    pub place: usize,
+impl From<tokens::fault::Fault> for Fault {
+    ghost from_gives = { λ f r. r ≡ fault.Text f };
+
+    fn from(fault: tokens::fault::Fault) -> Fault {
+        Fault::Text(fault)
+    }
 }
 
-/// Why a source was not passed: it is refused, or heap memory ran out, which says nothing of the source.
-#[derive(Clone, Copy)]
-pub enum JudgeError {
-    Refused(Refusal),
-    Memory,
+impl From<parser::fault::Fault> for Fault {
+    ghost from_gives = { λ f r. r ≡ fault.Grammar f };
+
+    fn from(fault: parser::fault::Fault) -> Fault {
+        Fault::Grammar(fault)
+    }
+}
+
+impl From<modes::fault::Fault> for Fault {
+    ghost from_gives = { λ f r. r ≡ fault.Modes f };
+
+    fn from(fault: modes::fault::Fault) -> Fault {
+        Fault::Modes(fault)
+    }
 }

@@ -2,7 +2,7 @@
 ghost use Rattle.std.specs.Prelude.{◌≡◌, [], length};
 ghost use Rattle.stack.specs.Held.{held, room, Pushed, Popped, Topped};
 
-use super::Stack;
+use super::{Full, Stack};
 
 impl<'a, T: Copy> Stack<'a, T> {
     /// An empty stack over all of `cells`.
@@ -13,18 +13,17 @@ impl<'a, T: Copy> Stack<'a, T> {
         Stack { cells, height: 0 }
     }
 
-    /// Puts `item` on top; or, where the stack is full, answers `false` and alters nothing.
-    pub fn push(&mut self, item: T) -> bool
+    /// Puts `item` on top; or, where the stack is full, alters nothing.
+    pub fn push(&mut self, item: T) -> Result<(), Full>
         ensures pushed { Pushed self.old item result self.new }
         ensures kept { room self.new ≡ room self.old }
     {
-        if self.height < self.cells.len() {
-            self.cells[self.height] = item;
-            self.height += 1;
-            true
-        } else {
-            false
+        if self.height == self.cells.len() {
+            return Err(Full);
         }
+        self.cells[self.height] = item;
+        self.height += 1;
+        Ok(())
     }
 
     /// Takes the top item off; or, where the stack is empty, answers `None` and alters nothing.

@@ -12,7 +12,7 @@ mod tests {
         assert_eq!(rt; stack.capacity(), 0);
         assert_eq!(rt; stack.len(), 0);
         assert_eq!(rt; stack.top(), None);
-        assert_eq!(rt; stack.push(1), false);
+        assert_eq!(rt; stack.push(1).is_ok(), false);
         assert_eq!(rt; stack.pop(), None);
         assert_eq!(rt; stack.len(), 0);
     }
@@ -23,10 +23,10 @@ mod tests {
         let mut stack = Stack::over(&mut cells);
         assert_eq!(rt; stack.capacity(), 3);
         assert_eq!(rt; stack.top(), None);
-        assert_eq!(rt; stack.push(1), true);
-        assert_eq!(rt; stack.push(2), true);
-        assert_eq!(rt; stack.push(3), true);
-        assert_eq!(rt; stack.push(4), false);
+        assert_eq!(rt; stack.push(1).is_ok(), true);
+        assert_eq!(rt; stack.push(2).is_ok(), true);
+        assert_eq!(rt; stack.push(3).is_ok(), true);
+        assert_eq!(rt; stack.push(4).is_ok(), false);
         assert_eq!(rt; stack.len(), 3);
         assert_eq!(rt; stack.capacity(), 3);
         assert_eq!(rt; stack.top(), Some(3));
@@ -36,14 +36,14 @@ mod tests {
     fn numbers_to_empty_and_one_more(rt: HostRuntime) {
         let mut cells = [7u32; 2];
         let mut stack = Stack::over(&mut cells);
-        assert_eq!(rt; stack.push(1), true);
-        assert_eq!(rt; stack.push(2), true);
+        assert_eq!(rt; stack.push(1).is_ok(), true);
+        assert_eq!(rt; stack.push(2).is_ok(), true);
         assert_eq!(rt; stack.pop(), Some(2));
         assert_eq!(rt; stack.top(), Some(1));
         assert_eq!(rt; stack.pop(), Some(1));
         assert_eq!(rt; stack.pop(), None);
         assert_eq!(rt; stack.len(), 0);
-        assert_eq!(rt; stack.push(3), true);
+        assert_eq!(rt; stack.push(3).is_ok(), true);
         assert_eq!(rt; stack.pop(), Some(3));
     }
 
@@ -51,9 +51,9 @@ mod tests {
     fn flags(rt: HostRuntime) {
         let mut cells = [true; 2];
         let mut stack = Stack::over(&mut cells);
-        assert_eq!(rt; stack.push(false), true);
-        assert_eq!(rt; stack.push(true), true);
-        assert_eq!(rt; stack.push(false), false);
+        assert_eq!(rt; stack.push(false).is_ok(), true);
+        assert_eq!(rt; stack.push(true).is_ok(), true);
+        assert_eq!(rt; stack.push(false).is_ok(), false);
         assert_eq!(rt; stack.top(), Some(true));
         assert_eq!(rt; stack.pop(), Some(true));
         assert_eq!(rt; stack.pop(), Some(false));

@@ -2,6 +2,8 @@
 use Rattle.std.proofs.Common.{◌≡◌, ℕ, ◌+◌, ◌<◌, ◌≤◌, Bool, true, false, cond, ltb, ◌⊎◌, List, [], ◌∷◌, length, Ok, Err, Result, Vec, sym, refl, ap, subst, inl, inr, ⊎_elim, arith}
 use Rattle.std.proofs.lemmas.Bool.{cases_lt, ltb-true, ltb-false}
 use Rattle.std.specs.declared.alloc.Global.{Global}
+use Rattle.refusals.specs.declared.failure.Failure.{Failure}
+use Rattle.refusals.specs.declared.failure.Failure.TheVariants.{Refused, Memory}
 use Rattle.tokens.specs.Answer.{Answers}
 use Rattle.tokens.specs.Faults.{number_of}
 use Rattle.tokens.specs.Law.{Among, Cuts, Faulty, Forms, Lawful, Right, Wrong, told, tokens_in}
@@ -10,8 +12,6 @@ use Rattle.tokens.specs.Reading.{Meaning, gap, token, fault, Reading, read, refu
 use Rattle.tokens.specs.Tokens.{Kind}
 use Rattle.tokens.specs.declared.fault.Fault.{Fault}
 use Rattle.tokens.specs.declared.fault.Fault.TheVariants.{SourceTooLong, NoToken, UnknownWord, NameTooLong, ConstantTooLarge, TooManyTokens}
-use Rattle.tokens.specs.declared.fault.ReadError.{ReadError}
-use Rattle.tokens.specs.declared.fault.ReadError.TheVariants.{Refused, Memory}
 use Rattle.tokens.specs.declared.sign.Sign as signs
 use Rattle.tokens.specs.declared.sign.Sign.TheVariants.{Semicolon, Comma, Becomes, Plus, Star, Equals, Differs, Open, Close}
 use Rattle.tokens.specs.declared.token.Token.{Token}
@@ -144,7 +144,7 @@ by_length source false e =
 reading_right : (source : List ℕ) → Right source (reading source)
 reading_right source = by_length source (ltb most_bytes (length source)) refl
 
-pub lawful : (source : List ℕ) (r : Result (Vec Token Global) ReadError) → Answers (reading source) r → Lawful source r
+pub lawful : (source : List ℕ) (r : Result (Vec Token Global) (Failure Fault)) → Answers (reading source) r → Lawful source r
 lawful source (Ok v) e = subst (Right source) e (reading_right source)
 lawful source (Err (Refused x)) e = subst (Right source) e (reading_right source)
-lawful source (Err Memory) e = tt
+lawful source (Err (Memory e)) h = tt

@@ -5,6 +5,4 @@ pub mod Lawful
 pub mod Resumed
 pub mod Runs
 pub mod Steps
-pub mod Table
 pub mod Taken
-pub mod Words

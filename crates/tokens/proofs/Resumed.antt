@@ -1,14 +1,12 @@
 -- The tokens told so far, before what the rest reads as.
-use Rattle.std.proofs.Common.{◌≡◌, ℕ, ◌<◌, ◌≤◌, List, [], ◌∷◌, ◌++◌, map, length, Ok, Err, vec_items, vec_len, Vec, sym, refl, ap, ◌∙◌, add-zero}
+use Rattle.std.proofs.Common.{◌≡◌, ℕ, ◌<◌, List, [], ◌∷◌, ◌++◌, map, length, Ok, vec_items, vec_len, Vec, sym, refl, ap, ◌∙◌}
 use Rattle.std.proofs.lemmas.List.{length_push, length-map, map_push}
-use Rattle.std.proofs.lemmas.Bool.{cond-true, cond-false, lt-ltb, le-ltb}
+use Rattle.std.proofs.lemmas.Bool.{cond-true, lt-ltb}
 use Rattle.std.specs.declared.alloc.Global.{Global}
 use Rattle.tokens.specs.Progress.{Takes, resume}
-use Rattle.tokens.specs.Reading.{gap, token, Reading, read, refused, before, most_tokens}
+use Rattle.tokens.specs.Reading.{token, Reading, read, refused, before, most_tokens}
 use Rattle.tokens.specs.Tokens.{Kind, Placed, placed, token_of}
 use Rattle.tokens.specs.declared.fault.Fault.{Fault}
-use Rattle.tokens.specs.declared.fault.Fault.TheVariants.{TooManyTokens}
-use Rattle.tokens.specs.declared.fault.ReadError.TheVariants.{Refused}
 use Rattle.tokens.specs.declared.token.Token.{Token}
 
 pub resume_refused : (ts : List Placed) (f : Fault) (p : ℕ) → resume ts (refused f p) ≡ refused f p
@@ -29,12 +27,6 @@ added ts us k p room e = (
   λ rest. ap (resume ts) (cond-true _ _ _ (lt-ltb (length ts) most_tokens room)) ∙ sym (resume_push ts _ rest) ∙ ap (λ l. resume l rest) (sym e),
   ap length e ∙ length_push ts _,
 )
-
-pub too_many : (ts us : List Placed) (k : Kind) (p : ℕ) → most_tokens ≤ length ts → Takes ts (token k) p (Err (Refused (record { fault = TooManyTokens; place = p }))) us
-too_many ts us k p full rest = cond-false _ _ _ (le-ltb (length ts) most_tokens full)
-
-pub nothing : (ts us : List Placed) (p : ℕ) → us ≡ ts → Takes ts gap p (Ok tt) us
-nothing ts us p e = (λ rest. ap (λ l. resume l rest) (sym e), ap length e ∙ sym (add-zero (length ts)))
 
 -- the same of the vector that holds the tokens
 pub push_placed : (v w : Vec Token Global) (t : Token) → vec_items w ≡ vec_items v ++ t ∷ [] → placed w ≡ placed v ++ token_of t ∷ []

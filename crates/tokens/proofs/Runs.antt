@@ -1,45 +1,48 @@
 -- What is known of the bytes of a run.
-use Rattle.std.proofs.Common.{◌≡◌, ℕ, zero, suc, ◌+◌, ◌-◌, ◌*◌, ◌<◌, ◌≤◌, List, [], ◌∷◌, ◌++◌, length, get_or, drop, IsUtf8, IsAscii, sym, ap, ◌∙◌, le_of_suc-le-suc, not-suc-le-zero, arith}
-use Rattle.std.proofs.lemmas.List.{at_drop_more, at_drop_all}
+use Rattle.std.proofs.Common.{◌≡◌, ℕ, zero, suc, ◌<◌, ◌^◌, List, [], ◌∷◌, ◌++◌, Ok, Err, Result, IsUtf8, IsAscii, MatchResult, arith, rules}
 use Rattle.std.proofs.lemmas.Str.{IsUtf8-from_ascii}
+use Rattle.std.proofs.lemmas.Str.Parse.{IsDigitsTest, IsNumeralModel, numerals_by_fold, parse_digits}
 use Rattle.tokens.specs.Bytes.{class}
+use Rattle.std.specs.Str.Parse.{ParsesUnsigned}
+use Rattle.tokens.specs.Law.{Forms}
 use Rattle.tokens.specs.Machine.{class_in}
-use Rattle.tokens.specs.Pieces.{AllOf}
-use Rattle.tokens.specs.Reading.{value, value_from}
+use Rattle.tokens.specs.Pieces.{AllOf, run}
+use Rattle.tokens.specs.Reading.{greatest, value, value_from}
 use Rattle.tokens.specs.declared.reader.Run.{Run}
-use Rattle.tokens.specs.declared.reader.Run.TheVariants.{Name, Number}
-use Rattle.tokens.proofs.Classes.{capital_byte, digit_byte}
+use Rattle.tokens.specs.declared.reader.Run.TheVariants.{Name, Word, Number}
+use Rattle.tokens.proofs.Classes.{capital_byte, digit_byte, digit_class, small_byte}
 
-all_at : (r : Run) (bs : List ℕ) → AllOf r bs → (i : ℕ) → i < length bs → class (get_or bs i 0) ≡ class_in r
-all_at r [] all i h = absurd (not-suc-le-zero h)
-all_at r (b ∷ bs) all zero h = all.0
-all_at r (b ∷ bs) all (suc i) h = all_at r bs all.1 i (le_of_suc-le-suc h)
+ascii_byte : (r : Run) (b : ℕ) → class b ≡ class_in r → b < 128
+ascii_byte Name b e = omega (arith, capital_byte b e)
+ascii_byte Word b e = omega (arith, small_byte b e)
+ascii_byte Number b e = omega (arith, digit_byte b e)
 
 pub all_more : (r : Run) (bs : List ℕ) (b : ℕ) → AllOf r bs → class b ≡ class_in r → AllOf r (bs ++ b ∷ [])
 all_more r [] b all e = (e, tt)
 all_more r (c ∷ bs) b all e = (all.0, all_more r bs b all.1 e)
 
-ascii_name : (bs : List ℕ) → AllOf Name bs → IsAscii bs
-ascii_name [] all i = omega arith
-ascii_name (b ∷ bs) all zero = omega (arith, capital_byte b all.0)
-ascii_name (b ∷ bs) all (suc i) = ascii_name bs all.1 i
+ascii_run : (r : Run) (bs : List ℕ) → AllOf r bs → IsAscii bs
+ascii_run r [] all i = omega arith
+ascii_run r (b ∷ bs) all zero = ascii_byte r b all.0
+ascii_run r (b ∷ bs) all (suc i) = ascii_run r bs all.1 i
 
-pub utf8_name : (bs : List ℕ) → AllOf Name bs → IsUtf8 bs
-utf8_name bs all = IsUtf8-from_ascii bs (ascii_name bs all)
+-- letters and digits are text
+pub utf8_run : (r : Run) (bs : List ℕ) → AllOf r bs → IsUtf8 bs
+utf8_run r bs all = IsUtf8-from_ascii bs (ascii_run r bs all)
 
--- one digit more: m is the number of the digit at i
-pub value_more : (bs : List ℕ) (i n m : ℕ) → AllOf Number bs → i < length bs → value_from n (drop i bs) ≡ value bs → (48 ≤ get_or bs i 0 → get_or bs i 0 ≤ 57 → m ≡ get_or bs i 0 - 48) → value_from (n * 10 + m) (drop (i + 1) bs) ≡ value bs
-value_more bs i n m all h e is =
-    let d = digit_byte (get_or bs i 0) (all_at Number bs all i h) in
-    ap (λ k. value_from (n * 10 + k) (drop (i + 1) bs)) (is d.0 d.1) ∙ sym (at_drop_more (value_from n) bs i 0 h) ∙ e
+-- digits, and the number that they represent, in the words of `parse`
+digits : IsDigitsTest (AllOf Number)
+digits = record {
+  empty = tt;
+  parts = λ c cs all. (digit_byte c all.0, all.1);
+  more = λ c cs is all. (digit_class c is, all);
+}
 
-pub value_all : (bs : List ℕ) (i n : ℕ) → length bs ≤ i → value_from n (drop i bs) ≡ value bs → n ≡ value bs
-value_all bs i n h e = sym (at_drop_all (value_from n) bs i h) ∙ e
+numerals : IsNumeralModel (AllOf Number) value
+numerals = numerals_by_fold (AllOf Number) digits value_from (search rules)
 
--- more digits make no number smaller
-grown : (n : ℕ) (bs : List ℕ) → n ≤ value_from n bs
-grown n [] = omega arith
-grown n (b ∷ bs) = omega (arith, grown (n * 10 + (b - 48)) bs)
-
-pub value_grows : (bs : List ℕ) (i n : ℕ) → value_from n (drop i bs) ≡ value bs → n ≤ value bs
-value_grows bs i n e = omega (arith, grown n (drop i bs))
+-- what `parse` gives for digits: their number, unless that is too large
+pub parsed : {E : Type 0} (bs : List ℕ) (r : Result ℕ E) → Forms (run Number) bs → ParsesUnsigned 32 10 bs r → MatchResult r (λ n. n ≡ value bs) (λ _. greatest < value bs)
+parsed {E} bs (Ok n) form is = (parse_digits numerals {E = E} 32 bs (Ok n) is form.1).1
+parsed {E} bs (Err e) form is =
+    let large : value bs < 2 ^ 32 → ⊥ = λ small. parse_digits numerals {E = E} 32 bs (Err e) is form.1 (form.0, small) in omega arith

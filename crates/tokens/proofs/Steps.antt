@@ -1,21 +1,23 @@
 -- What one byte does to a reading: the reader's step, held to what the rest of the source reads as.
-use Rattle.std.proofs.Common.{◌≡◌, ℕ, ◌+◌, ◌-◌, ◌<◌, ◌≤◌, Bool, true, false, cond, List, [], ◌∷◌, ◌++◌, length, take, drop, Some, None, Option, sym, refl, ap, ◌∙◌, subst, append_assoc, add-zero, arith, length-append}
+use Rattle.std.proofs.Common.{◌≡◌, ℕ, ◌+◌, ◌-◌, ◌<◌, ◌≤◌, Bool, true, false, cond, List, [], ◌∷◌, ◌++◌, length, take, drop, Some, None, Ok, Err, Option, Result, sym, refl, ap, ◌∙◌, subst, append_assoc, add-zero, arith, length-append}
 use Rattle.std.specs.List.{between}
 use Rattle.std.proofs.lemmas.List.{drop-drop, take_at}
 use Rattle.tokens.specs.Bytes.{class}
+use Rattle.tokens.specs.Law.{Forms}
 use Rattle.tokens.specs.Machine.{class_in, grows, completes, begun, state_after, start_after, step_at}
 use Rattle.tokens.specs.Pieces.{AllOf, Piece, piece, run, sign, colon, join, attach, cut, next_class}
 use Rattle.tokens.specs.Progress.{Open, Pending, untold, found_meaning, ended_meaning}
 use Rattle.tokens.specs.Reading.{meaning, weight, meet, walk}
 use Rattle.tokens.specs.declared.class.Class.{Class}
 use Rattle.tokens.specs.declared.class.Class.TheVariants.{Blank, Capital, Small, Digit, Sign, Colon, Other}
-use Rattle.tokens.specs.declared.reader.Found.{Found}
-use Rattle.tokens.specs.declared.reader.Found.TheVariants as found
+use Rattle.tokens.specs.declared.fault.Fault.{Fault}
+use Rattle.tokens.specs.declared.fault.Fault.TheVariants.{NoToken}
 use Rattle.tokens.specs.declared.reader.Run.{Run}
 use Rattle.tokens.specs.declared.reader.Run.TheVariants.{Name, Word, Number}
 use Rattle.tokens.specs.declared.reader.State.{State}
 use Rattle.tokens.specs.declared.reader.State.TheVariants.{Between, In, AfterColon}
 use Rattle.tokens.specs.declared.reader.Step.{Step}
+use Rattle.tokens.specs.declared.sign.Sign as signs
 use Rattle.tokens.specs.declared.sign.Sign.TheVariants.{Becomes, Equals}
 use Rattle.tokens.proofs.Runs.{all_more}
 
@@ -29,7 +31,7 @@ pub cut_first : (b : ℕ) (bs : List ℕ) (c : Class) → class b ≡ c → cut 
 cut_first b bs c e = ap (λ x. attach x (next_class bs) b (cut bs)) e
 
 -- the reading from a place, and the step of the reader that leads on from there
-pub record Moved (source : List ℕ) (n u start at : ℕ) (ended : Option Run) (met : Found) (state : State) (next : ℕ) : Type 0 where
+pub record Moved (source : List ℕ) (n u start at : ℕ) (ended : Option Run) (met : Result (Option signs.Sign) Fault) (state : State) (next : ℕ) : Type 0 where
   pub same : walk n u (cut (drop u source)) ≡ meet (ended_meaning ended (between start at source)) n start (meet (found_meaning met) (n + weight (ended_meaning ended (between start at source))) next (walk (n + weight (ended_meaning ended (between start at source)) + weight (found_meaning met)) (untold state next (at + 1)) (cut (drop (untold state next (at + 1)) source))))
   pub opened : Open state next (at + 1) source
   pub pending : Pending ended source start at
@@ -57,7 +59,7 @@ module _ (source : List ℕ) (n at b : ℕ) (bs : List ℕ) (here : drop at sour
   begins Capital e = record { same = stays; opened = opens_run Name e }
   begins Small e = record { same = stays; opened = opens_run Word e }
   begins Digit e = record { same = stays; opened = opens_run Number e }
-  begins (Sign s) e = record { same = reads (Sign s) e ∙ ap (meet (found_meaning (found.Sign s)) n at) (onward (n + 1)); opened = tt }
+  begins (Sign s) e = record { same = reads (Sign s) e ∙ ap (meet (found_meaning (Ok (Some s))) n at) (onward (n + 1)); opened = tt }
   begins Colon e = record { same = stays; opened = (b, here ∙ ap (λ l. b ∷ l) (sym (drop_next source at b bs here)), e, refl) }
   begins Other e = record { same = reads Other e; opened = tt }
 
@@ -116,7 +118,7 @@ module _ (source : List ℕ) (n start at : ℕ) (r : Run) (bs : List ℕ) (from 
   ended_run c next g new =
       ap (λ l. walk n start (cut l)) from ∙ ap (walk n start) (cut_run r bs (drop at source) all some (ap (grows r) (sym next) ∙ g)) ∙ ap (λ k. meet (meaning (piece (run r) bs)) n start (walk (n + weight (meaning (piece (run r) bs))) k (cut (drop at source)))) long ∙ ap (meet (meaning (piece (run r) bs)) n start) new.same
 
-  in_run : (c : Class) → c ≡ next_class (drop at source) → (g : Bool) → grows r c ≡ g → Moved source n start start at (cond {A = Step} g (record { ended = None; found = found.Nothing }) (record { ended = Some r; found = (begun c).1 })).ended (cond {A = Step} g (record { ended = None; found = found.Nothing }) (record { ended = Some r; found = (begun c).1 })).found (cond g (In r) (begun c).0) (cond g start at)
+  in_run : (c : Class) → c ≡ next_class (drop at source) → (g : Bool) → grows r c ≡ g → Moved source n start start at (cond {A = Step} g (record { ended = None; found = Ok None }) (record { ended = Some r; found = (begun c).1 })).ended (cond {A = Step} g (record { ended = None; found = Ok None }) (record { ended = Some r; found = (begun c).1 })).found (cond g (In r) (begun c).0) (cond g start at)
   in_run c next true g = record {
     same = ap (λ k. walk k start (cut (drop start source))) (sym (add-zero n) ∙ sym (add-zero (n + 0)));
     opened = longer (drop at source) refl (ap (grows r) (sym next) ∙ g);
@@ -127,7 +129,7 @@ module _ (source : List ℕ) (n start at : ℕ) (r : Run) (bs : List ℕ) (from 
       record {
         same = subst (λ l. walk n start (cut (drop start source)) ≡ meet (meaning (piece (run r) l)) n start (meet (found_meaning (begun c).1) (n + weight (meaning (piece (run r) l))) at (walk (n + weight (meaning (piece (run r) l)) + weight (found_meaning (begun c).1)) (untold (begun c).0 at (at + 1)) (cut (drop (untold (begun c).0 at (at + 1)) source))))) (sym run_bytes) (ended_run c next g new);
         opened = new.opened;
-        pending = (omega arith, within, subst (AllOf r) (sym run_bytes) all);
+        pending = (omega arith, within, subst (Forms (run r)) (sym run_bytes) (some, all));
       }
 
 -- after a colon
@@ -143,12 +145,12 @@ module _ (source : List ℕ) (n start at b : ℕ) (from : drop start source ≡ 
   becomes (e ∷ rest) here g =
       (e, colon_cut ∙ ap (λ l. join (completes (next_class l)) (sign Becomes) colon b (cut l)) here ∙ ap (λ t. join t (sign Becomes) colon b (cut (e ∷ rest))) g ∙ ap (join true (sign Becomes) colon b) (cut_first e rest (Sign Equals) (completes_equals (class e) g)) ∙ ap (λ l. piece (sign Becomes) (b ∷ e ∷ []) ∷ cut l) (sym (drop_next source at e rest here)))
 
-  after_colon : (c : Class) → c ≡ next_class (drop at source) → (g : Bool) → completes c ≡ g → Moved source n start start at None (cond g (found.Sign Becomes) found.NoToken) Between start
+  after_colon : (c : Class) → c ≡ next_class (drop at source) → (g : Bool) → completes c ≡ g → Moved source n start start at None (cond g (Ok (Some Becomes)) (Err NoToken)) Between start
   after_colon c next true g =
       let two : start + 2 ≡ at + 1 = omega arith in
       let Sign-read = (becomes (drop at source) refl (ap completes (sym next) ∙ g)).1 in
       record {
-        same = ap (walk n start) Sign-read ∙ ap (λ k. meet (found_meaning (found.Sign Becomes)) n start (walk (n + 1) k (cut (drop (at + 1) source)))) two ∙ ap (λ k. meet (found_meaning (found.Sign Becomes)) k start (walk (k + 1) (at + 1) (cut (drop (at + 1) source)))) (sym (add-zero n));
+        same = ap (walk n start) Sign-read ∙ ap (λ k. meet (found_meaning (Ok (Some Becomes))) n start (walk (n + 1) k (cut (drop (at + 1) source)))) two ∙ ap (λ k. meet (found_meaning (Ok (Some Becomes))) k start (walk (k + 1) (at + 1) (cut (drop (at + 1) source)))) (sym (add-zero n));
         opened = tt;
         pending = tt;
       }

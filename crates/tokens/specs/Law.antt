@@ -1,6 +1,8 @@
 -- What a right answer to a source is, in the words of the language.
 use Rattle.std.specs.Prelude.{◌≡◌, ℕ, ◌+◌, ◌<◌, ◌≤◌, ◌⊎◌, List, [], ◌∷◌, ◌++◌, length, Ok, Err, codes, Result, Vec}
 use Rattle.std.specs.declared.alloc.Global.{Global}
+use Rattle.refusals.specs.declared.failure.Failure.{Failure}
+use Rattle.refusals.specs.declared.failure.Failure.TheVariants.{Refused, Memory}
 use Rattle.tokens.specs.Bytes.{class}
 use Rattle.tokens.specs.Faults.{number_of}
 use Rattle.tokens.specs.Machine.{class_in}
@@ -11,8 +13,6 @@ use Rattle.tokens.specs.Words.{spelling}
 use Rattle.tokens.specs.declared.class.Class.TheVariants as class-is
 use Rattle.tokens.specs.declared.fault.Fault.{Fault}
 use Rattle.tokens.specs.declared.fault.Fault.TheVariants.{SourceTooLong, TooManyTokens}
-use Rattle.tokens.specs.declared.fault.ReadError.{ReadError}
-use Rattle.tokens.specs.declared.fault.ReadError.TheVariants.{Refused, Memory}
 use Rattle.tokens.specs.declared.sign.Sign.TheVariants.{Equals}
 use Rattle.tokens.specs.declared.token.Token.{Token}
 
@@ -78,7 +78,7 @@ Right source (refused f p) =
     Faulty source f p × ((g : Fault) (q : ℕ) → Faulty source g q → (p < q) ⊎ ((p ≡ q) × (number_of f ≤ number_of g)))
 
 -- what the code answers is right; want of heap memory says nothing of the source
-abbrev pub Lawful : List ℕ → Result (Vec Token Global) ReadError → Type 0
+abbrev pub Lawful : List ℕ → Result (Vec Token Global) (Failure Fault) → Type 0
 Lawful source (Ok v) = Right source (read (placed v))
 Lawful source (Err (Refused x)) = Right source (refused x.fault x.place)
-Lawful source (Err Memory) = Unit {0}
+Lawful source (Err (Memory e)) = Unit {0}

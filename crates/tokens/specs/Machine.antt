@@ -1,10 +1,11 @@
 -- The token reader's moves: what it does at a byte is told by its state and the byte's class alone.
-use Rattle.std.specs.Prelude.{ℕ, Bool, true, false, cond, Some, None}
+use Rattle.std.specs.Prelude.{ℕ, Bool, true, false, cond, Some, None, Ok, Err, Option, Result}
 use Rattle.tokens.specs.declared.class.Class.{Class}
 use Rattle.tokens.specs.declared.class.Class.TheVariants.{Blank, Capital, Small, Digit, Sign, Colon, Other}
+use Rattle.tokens.specs.declared.sign.Sign as signs
 use Rattle.tokens.specs.declared.sign.Sign.TheVariants.{Semicolon, Comma, Becomes, Plus, Star, Equals, Differs, Open, Close}
-use Rattle.tokens.specs.declared.reader.Found.{Found}
-use Rattle.tokens.specs.declared.reader.Found.TheVariants as found
+use Rattle.tokens.specs.declared.fault.Fault.{Fault}
+use Rattle.tokens.specs.declared.fault.Fault.TheVariants.{NoToken}
 use Rattle.tokens.specs.declared.reader.Run.{Run}
 use Rattle.tokens.specs.declared.reader.Run.TheVariants as run
 use Rattle.tokens.specs.declared.reader.State.{State}
@@ -59,15 +60,15 @@ completes (Sign Close) = false
 completes Colon = false
 completes Other = false
 
--- where no token is open: the state after a byte, and what it completes
-abbrev pub begun : Class → State × Found
-begun Blank = (Between, found.Nothing)
-begun Capital = (In run.Name, found.Nothing)
-begun Small = (In run.Word, found.Nothing)
-begun Digit = (In run.Number, found.Nothing)
-begun (Sign s) = (Between, found.Sign s)
-begun Colon = (AfterColon, found.Nothing)
-begun Other = (Between, found.NoToken)
+-- where no token is open: the state after a byte, and the sign that it completes, or its fault
+abbrev pub begun : Class → State × Result (Option signs.Sign) Fault
+begun Blank = (Between, Ok None)
+begun Capital = (In run.Name, Ok None)
+begun Small = (In run.Word, Ok None)
+begun Digit = (In run.Number, Ok None)
+begun (Sign s) = (Between, Ok (Some s))
+begun Colon = (AfterColon, Ok None)
+begun Other = (Between, Err NoToken)
 
 abbrev pub state_after : State → Class → State
 state_after Between c = (begun c).0
@@ -82,5 +83,5 @@ start_after AfterColon c start at = start
 
 abbrev pub step_at : State → Class → Step
 step_at Between c = record { ended = None; found = (begun c).1 }
-step_at (In r) c = cond (grows r c) (record { ended = None; found = found.Nothing }) (record { ended = Some r; found = (begun c).1 })
-step_at AfterColon c = record { ended = None; found = cond (completes c) (found.Sign Becomes) found.NoToken }
+step_at (In r) c = cond (grows r c) (record { ended = None; found = Ok None }) (record { ended = Some r; found = (begun c).1 })
+step_at AfterColon c = record { ended = None; found = cond (completes c) (Ok (Some Becomes)) (Err NoToken) }

@@ -1,5 +1,6 @@
 -- How words and signs are written, and which word a run of letters is.
-use Rattle.std.specs.Prelude.{◌≡◌, ℕ, cond, List, [], ◌∷◌, Some, None, codes, Option, ◌≢◌}
+use Rattle.std.specs.Prelude.{◌≡◌, ℕ, List, [], ◌∷◌, Some, None, codes, Option, ◌≢◌}
+use Rattle.std.specs.List.{find}
 use Rattle.std.specs.Str.{bytes_eq}
 use Rattle.tokens.specs.declared.sign.Sign.{Sign}
 use Rattle.tokens.specs.declared.sign.Sign.TheVariants.{Semicolon, Comma, Becomes, Plus, Star, Equals, Differs, Open, Close}
@@ -27,13 +28,9 @@ letters False = codes "false"
 abbrev pub words : List Word
 words = Begin ∷ End ∷ Int ∷ Bool ∷ Ref ∷ If ∷ Then ∷ Else ∷ Fi ∷ While ∷ Do ∷ Input ∷ Output ∷ True ∷ False ∷ []
 
--- the first of some words that is written like the run
-abbrev pub first_like : List ℕ → List Word → Option Word
-first_like run [] = None
-first_like run (w ∷ ws) = cond (bytes_eq run (letters w)) (Some w) (first_like run ws)
-
+-- the word that is written like the run, if one is
 abbrev pub word_of : List ℕ → Option Word
-word_of run = first_like run words
+word_of run = find (λ w. bytes_eq run (letters w)) words
 
 -- the word that a run is written like, or none where no word is
 abbrev pub Spells : List ℕ → Option Word → Type 0

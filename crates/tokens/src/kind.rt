@@ -1,8 +1,9 @@
 // From a run of bytes to the token that it is, or to its fault.
-ghost use Rattle.std.specs.Prelude.{◌≡◌, ◌-◌, ◌≤◌, if◌then◌else◌, Some, None, nat_le};
-ghost use Rattle.tokens.specs.Pieces.{AllOf, piece, run as run-sort};
+ghost use Rattle.std.specs.Prelude.{◌≡◌};
+ghost use Rattle.tokens.specs.Law.{Forms};
+ghost use Rattle.tokens.specs.Pieces.{piece, run as run-sort};
 ghost use Rattle.tokens.specs.Progress.{kind_meaning};
-ghost use Rattle.tokens.specs.Reading.{greatest, meaning, value};
+ghost use Rattle.tokens.specs.Reading.{meaning};
 ghost use Rattle.tokens.specs.declared.reader.Run.TheVariants.{Name, Word as AsWord, Number};
 
 use crate::fault::Fault;
@@ -15,13 +16,15 @@ const MOST_LETTERS: usize = 16;
 
 const MOST_DIGITS: usize = 10;
 
-const GREATEST: u64 = 2_147_483_647;
+const GREATEST: u32 = 2_147_483_647;
 
 /// The token that a whole run is, or the run's fault.
-pub(crate) fn run_kind(run: Run, text: &[u8]) -> Result<TokenKind<'_>, Fault>
-    requires { AllOf run text.now }
-    ensures { kind_meaning result ≡ meaning (piece (run-sort run) text.now) }
+pub(crate) fn run_kind(run: Run, bytes: &[u8]) -> Result<TokenKind<'_>, Fault>
+    requires { Forms (run-sort run) bytes.now }
+    ensures { kind_meaning result ≡ meaning (piece (run-sort run) bytes.now) }
 {
+    // Letters and digits are text.
+    let text = str::from_utf8(bytes).unwrap();
     match run {
         Run::Name => name_kind(text),
         Run::Word => word_kind(text),
@@ -29,59 +32,31 @@ pub(crate) fn run_kind(run: Run, text: &[u8]) -> Result<TokenKind<'_>, Fault>
     }
 }
 
-fn name_kind(text: &[u8]) -> Result<TokenKind<'_>, Fault>
-    requires { AllOf Name text.now }
+fn name_kind(text: &str) -> Result<TokenKind<'_>, Fault>
     ensures { kind_meaning result ≡ meaning (piece (run-sort Name) text.now) }
 {
-    match str::from_utf8(text) {
-        Ok(name) if text.len() <= MOST_LETTERS => Ok(TokenKind::Name(name)),
-        Ok(_) => Err(Fault::NameTooLong),
-        // Capitals are text, so this arm is never taken.
-        Err(_) => Err(Fault::NameTooLong),
+    if text.len() <= MOST_LETTERS {
+        Ok(TokenKind::Name(text))
+    } else {
+        Err(Fault::NameTooLong)
     }
 }
 
-fn word_kind(text: &[u8]) -> Result<TokenKind<'_>, Fault>
+fn word_kind(text: &str) -> Result<TokenKind<'_>, Fault>
     ensures { kind_meaning result ≡ meaning (piece (run-sort AsWord) text.now) }
 {
-    match Word::of_run(text) {
-        Some(word) => Ok(TokenKind::Word(word)),
-        None => Err(Fault::UnknownWord),
-    }
+    let word = Word::of_run(text.as_bytes()).ok_or(Fault::UnknownWord)?;
+    Ok(TokenKind::Word(word))
 }
 
-fn constant_kind(text: &[u8]) -> Result<TokenKind<'_>, Fault>
-    requires { AllOf Number text.now }
+fn constant_kind(text: &str) -> Result<TokenKind<'_>, Fault>
+    requires { Forms (run-sort Number) text.now }
     ensures { kind_meaning result ≡ meaning (piece (run-sort Number) text.now) }
 {
-    match decimal(text) {
-        Some(value) if text.len() <= MOST_DIGITS => Ok(TokenKind::Constant(value)),
-        _ => Err(Fault::ConstantTooLarge),
-    }
-}
-
-/// The number that digits stand for, up to the greatest.
-fn decimal(text: &[u8]) -> Option<u32>
-    requires { AllOf Number text.now }
-    ensures { result ≡ (if nat_le (value text.now) greatest then Some (value text.now) else None) }
-{
-    let mut sum: u64 = 0;
-    for byte in text {
-        sum = sum * 10 + u64::from(digit(*byte));
-        if sum > GREATEST {
-            return None;
+    match text.parse() {
+        Ok(value) if value <= GREATEST && text.len() <= MOST_DIGITS => {
+            Ok(TokenKind::Constant(value))
         }
-    }
-    Some(sum as u32)
-}
-
-/// The digit's number; 0 for any other byte.
-fn digit(byte: u8) -> u8
-    ensures value { 48 ≤ byte → byte ≤ 57 → result ≡ byte - 48 }
-    ensures small { result ≤ 9 }
-{
-    match byte {
-        b'0'..=b'9' => byte - b'0',
-        _ => 0,
+        _ => Err(Fault::ConstantTooLarge),
     }
 }

@@ -8,6 +8,7 @@ mod read;
 pub mod reader;
 pub mod sign;
 pub mod token;
+mod told;
 pub mod word;
 
 pub use read::read_tokens;

@@ -1,26 +1,25 @@
 // Reading a source: one pass over its bytes.
-ghost use Rattle.std.specs.Prelude.{◌≡◌, ◌≤◌, length, drop};
+ghost use Rattle.std.specs.Prelude.{◌≡◌, ◌≤◌, length, drop, []};
+ghost use Rattle.tokens.specs.Answer.{Answers};
 ghost use Rattle.tokens.specs.Law.{Lawful};
 ghost use Rattle.tokens.specs.Pieces.{next_class};
-ghost use Rattle.std.specs.List.{between};
-ghost use Rattle.tokens.specs.Answer.{Answers};
-ghost use Rattle.tokens.specs.Progress.{Moves, Pending, Stands, Takes, ended_meaning, found_meaning};
-ghost use Rattle.tokens.specs.Reading.{reading, token as as-token};
-ghost use Rattle.tokens.specs.Tokens.{kind_of, placed};
+ghost use Rattle.tokens.specs.Progress.{Moves, Stands};
+ghost use Rattle.tokens.specs.Reading.{reading};
+ghost use Rattle.tokens.specs.Tokens.{placed};
+ghost use Rattle.tokens.specs.declared.reader.State.TheVariants.{Between};
 
 use crate::class::{Class, class_of};
-use crate::fault::{Fault, ReadError, Refusal};
-use crate::kind::run_kind;
-use crate::reader::{Found, Reader, Run, State};
-use crate::token::{Token, TokenKind};
+use crate::fault::Fault;
+use crate::reader::{Reader, State};
+use crate::token::Token;
+use crate::told::Told;
+use refusals::Failure;
 use std::alloc::Global;
 
 const MOST_BYTES: usize = 8192;
 
-const MOST_TOKENS: usize = 512;
-
 /// The tokens of a source, or why it is refused.
-pub fn read_tokens<'a>(heap: Global, source: &'a [u8]) -> Result<Vec<Token<'a>>, ReadError>
+pub fn read_tokens<'a>(heap: Global, source: &'a [u8]) -> Result<Vec<Token<'a>>, Failure<Fault>>
     ensures defined { Answers (reading source.now) result }
     ensures lawful { Lawful source.now result }
 {
@@ -28,88 +27,59 @@ pub fn read_tokens<'a>(heap: Global, source: &'a [u8]) -> Result<Vec<Token<'a>>,
 }
 
 /// The same, without the law: one step for each byte, and one for the end.
-fn read_bytes<'a>(heap: Global, source: &'a [u8]) -> Result<Vec<Token<'a>>, ReadError>
+fn read_bytes<'a>(heap: Global, source: &'a [u8]) -> Result<Vec<Token<'a>>, Failure<Fault>>
     ensures { Answers (reading source.now) result }
 {
     if source.len() > MOST_BYTES {
-        return Err(refused(Fault::SourceTooLong, 0));
+        return Err(Failure::refused(Fault::SourceTooLong, 0));
     }
-    let mut tokens = Vec::new(heap);
-    let mut reader = Reader {
-        state: State::Between,
-        start: 0,
-    };
+    let mut scanner = Scanner::new(heap, source);
     for (at, byte) in source.iter().enumerate() {
-        take(&mut tokens, &mut reader, source, at, class_of(*byte))?;
+        scanner.take(at, class_of(*byte))?;
     }
     // The end parts tokens as a blank does.
-    take(&mut tokens, &mut reader, source, source.len(), Class::Blank)?;
-    Ok(tokens)
+    scanner.take(source.len(), Class::Blank)?;
+    Ok(scanner.told.tokens)
 }
 
-fn refused(fault: Fault, place: usize) -> ReadError
-    ensures { result ≡ ReadError.Refused (record { fault = fault; place = place }) }
-{
-    ReadError::Refused(Refusal { fault, place })
-}
-
-/// Takes one byte, known by its class.
-fn take<'a>(
-    tokens: &mut Vec<Token<'a>>,
-    reader: &mut Reader,
+/// A source, the tokens that are told of it so far, and the reader that goes over it.
+// That they stand together is a `requires`, and no ghost field: inside of `take` the reader is ahead of the tokens.
+#[derive(Drop)]
+struct Scanner<'a> {
     source: &'a [u8],
-    at: usize,
-    class: Class,
-) -> Result<(), ReadError>
-    requires stands { Stands source.now (placed tokens.old) reader.old at }
-    requires within { at ≤ length source.now }
-    requires next { class ≡ next_class (drop at source.now) }
-    ensures { Moves source.now at result (placed tokens.new) reader.new }
-{
-    let start = reader.start;
-    let step = reader.advance(at, class);
-    end_run(tokens, step.ended, source, start, at)?;
-    settle(tokens, step.found, reader.start)
+    told: Told<'a>,
+    reader: Reader,
 }
 
-/// Tells the run that has ended before the byte at `at`, if one has.
-fn end_run<'a>(
-    tokens: &mut Vec<Token<'a>>,
-    ended: Option<Run>,
-    source: &'a [u8],
-    start: usize,
-    at: usize,
-) -> Result<(), ReadError>
-    requires { Pending ended source.now start at }
-    ensures { Takes (placed tokens.old) (ended_meaning ended (between start at source.now)) start result (placed tokens.new) }
-{
-    let Some(run) = ended else {
-        return Ok(());
-    };
-    match run_kind(run, &source[start..at]) {
-        Ok(kind) => add(tokens, start, kind),
-        Err(fault) => Err(refused(fault, start)),
+impl<'a> Scanner<'a> {
+    fn new(heap: Global, source: &'a [u8]) -> Scanner<'a>
+        ensures source { result.source ≡ source.entry }
+        ensures told { placed result.told.tokens ≡ [] }
+        ensures reader { result.reader ≡ record { state = Between; start = 0 } }
+    {
+        Scanner {
+            source,
+            told: Told {
+                tokens: Vec::new(heap),
+            },
+            reader: Reader {
+                state: State::Between,
+                start: 0,
+            },
+        }
     }
-}
 
-/// Tells what a byte has completed.
-fn settle(tokens: &mut Vec<Token<'_>>, found: Found, place: usize) -> Result<(), ReadError>
-    ensures { Takes (placed tokens.old) (found_meaning found) place result (placed tokens.new) }
-{
-    match found {
-        Found::Nothing => Ok(()),
-        Found::Sign(sign) => add(tokens, place, TokenKind::Sign(sign)),
-        Found::NoToken => Err(refused(Fault::NoToken, place)),
+    /// Takes one byte, known by its class.
+    fn take(&mut self, at: usize, class: Class) -> Result<(), Failure<Fault>>
+        requires stands { Stands self.old.source.now (placed self.old.told.tokens) self.old.reader at }
+        requires within { at ≤ length self.old.source.now }
+        requires next { class ≡ next_class (drop at self.old.source.now) }
+        ensures moves { Moves self.old.source.now at result (placed self.new.told.tokens) self.new.reader }
+        ensures source { self.new.source ≡ self.old.source }
+    {
+        let start = self.reader.start;
+        let step = self.reader.advance(at, class);
+        self.told.end_run(step.ended, self.source, start, at)?;
+        self.told.settle(step.found, self.reader.start)
     }
-}
-
-/// One token more, unless there are too many.
-fn add<'a>(tokens: &mut Vec<Token<'a>>, place: usize, kind: TokenKind<'a>) -> Result<(), ReadError>
-    ensures { Takes (placed tokens.old) (as-token (kind_of kind.entry)) place result (placed tokens.new) }
-{
-    if tokens.len() >= MOST_TOKENS {
-        return Err(refused(Fault::TooManyTokens, place));
-    }
-    tokens.push(Token { place, kind })?;
-    Ok(())
 }

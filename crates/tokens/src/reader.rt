@@ -3,6 +3,7 @@ ghost use Rattle.std.specs.Prelude.{◌≡◌};
 ghost use Rattle.tokens.specs.Machine.{grows, state_after, start_after, step_at, begun};
 
 use crate::class::Class;
+use crate::fault::Fault;
 use crate::sign::Sign;
 
 /// The runs that are as long as they can be: capitals, small letters, digits.
@@ -18,16 +19,15 @@ impl Run {
     fn grows(self, class: Class) -> bool
         ensures { result ≡ grows self class }
     {
-        match (self, class) {
-            (Run::Name, Class::Capital) => true,
-            (Run::Word, Class::Small) => true,
-            (Run::Number, Class::Digit) => true,
-            _ => false,
-        }
+        matches!(
+            (self, class),
+            (Run::Name, Class::Capital) | (Run::Word, Class::Small) | (Run::Number, Class::Digit)
+        )
     }
 }
 
 /// Where the reader is: between tokens, in a name, a word or a number, or after a colon.
+// A state, and no closure for the next step: what a byte does is to be told by the state and the byte's class alone.
 #[derive(Clone, Copy)]
 pub enum State {
     Between,
@@ -35,19 +35,11 @@ pub enum State {
     AfterColon,
 }
 
-/// What stands complete at the reader's own start: nothing yet, a sign, or no token at all.
-#[derive(Clone, Copy)]
-pub enum Found {
-    Nothing,
-    Sign(Sign),
-    NoToken,
-}
-
-/// What one byte brings: the run that ended before it, and what it completes itself.
+/// What one byte brings: the run that ended before it, and the sign that it completes itself, or its fault.
 #[derive(Clone, Copy)]
 pub struct Step {
     pub ended: Option<Run>,
-    pub found: Found,
+    pub found: Result<Option<Sign>, Fault>,
 }
 
 /// The reader's state, and the place at which what it is reading began.
@@ -58,17 +50,17 @@ pub struct Reader {
 }
 
 /// What a byte of a class begins where no token is open.
-fn begin(class: Class) -> (State, Found)
+fn begin(class: Class) -> (State, Result<Option<Sign>, Fault>)
     ensures { result ≡ begun class }
 {
     match class {
-        Class::Blank => (State::Between, Found::Nothing),
-        Class::Capital => (State::In(Run::Name), Found::Nothing),
-        Class::Small => (State::In(Run::Word), Found::Nothing),
-        Class::Digit => (State::In(Run::Number), Found::Nothing),
-        Class::Sign(sign) => (State::Between, Found::Sign(sign)),
-        Class::Colon => (State::AfterColon, Found::Nothing),
-        Class::Other => (State::Between, Found::NoToken),
+        Class::Blank => (State::Between, Ok(None)),
+        Class::Capital => (State::In(Run::Name), Ok(None)),
+        Class::Small => (State::In(Run::Word), Ok(None)),
+        Class::Digit => (State::In(Run::Number), Ok(None)),
+        Class::Sign(sign) => (State::Between, Ok(Some(sign))),
+        Class::Colon => (State::AfterColon, Ok(None)),
+        Class::Other => (State::Between, Err(Fault::NoToken)),
     }
 }
 
@@ -82,7 +74,7 @@ impl Reader {
         match (self.state, class) {
             (State::In(run), _) if run.grows(class) => Step {
                 ended: None,
-                found: Found::Nothing,
+                found: Ok(None),
             },
             (State::In(run), _) => Step {
                 ended: Some(run),
@@ -96,21 +88,21 @@ impl Reader {
                 self.state = State::Between;
                 Step {
                     ended: None,
-                    found: Found::Sign(Sign::Becomes),
+                    found: Ok(Some(Sign::Becomes)),
                 }
             }
             (State::AfterColon, _) => {
                 self.state = State::Between;
                 Step {
                     ended: None,
-                    found: Found::NoToken,
+                    found: Err(Fault::NoToken),
                 }
             }
         }
     }
 
     /// Takes the byte at `at` as the first of something new.
-    fn restart(&mut self, at: usize, class: Class) -> Found
+    fn restart(&mut self, at: usize, class: Class) -> Result<Option<Sign>, Fault>
         ensures state { self.new.state ≡ (begun class).0 }
         ensures start { self.new.start ≡ at }
         ensures found { result ≡ (begun class).1 }

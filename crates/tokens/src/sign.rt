@@ -1,6 +1,8 @@
 // The nine signs of the language.
-ghost use Rattle.std.specs.Prelude.{◌≡◌};
+ghost use Rattle.std.specs.Prelude.{◌≡◌, Some};
 ghost use Rattle.tokens.specs.Words.{spelling};
+
+use std::fmt;
 
 /// A sign: one byte, but for `:=`, which is two.
 #[derive(Clone, Copy, PartialEq, Eq, Debug)]
@@ -32,5 +34,13 @@ impl Sign {
             Sign::Open => "(",
             Sign::Close => ")",
         }
+    }
+}
+
+impl fmt::Display for Sign {
+    ghost output = { λ s. Some (spelling s) };
+
+    fn fmt<W: fmt::Write>(&self, f: &mut fmt::Formatter<W>) -> fmt::Result {
+        f.write_str(self.text())
     }
 }

@@ -1,7 +1,8 @@
 // The fifteen words of the language.
-ghost use Rattle.std.specs.Prelude.{◌≡◌};
-ghost use Rattle.std.specs.Str.{bytes_eq};
+ghost use Rattle.std.specs.Prelude.{◌≡◌, Some};
 ghost use Rattle.tokens.specs.Words.{Spells, letters, word_of};
+
+use std::fmt;
 
 /// A word of the language.
 #[derive(Clone, Copy, PartialEq, Eq, Debug)]
@@ -50,21 +51,14 @@ impl Word {
         Word::first_like(run)
     }
 
+    // Apart from `of_run`, since `spelt` is proved from this clause.
     fn first_like(run: &[u8]) -> Option<Word>
         ensures { result ≡ word_of run.now }
     {
-        for word in WORDS.iter() {
-            if word.is_written(run) {
-                return Some(*word);
-            }
-        }
-        None
-    }
-
-    fn is_written(self, run: &[u8]) -> bool
-        ensures { result ≡ bytes_eq run.now (letters self) }
-    {
-        run == self.text().as_bytes()
+        WORDS
+            .iter()
+            .copied()
+            .find(|word| run == word.text().as_bytes())
     }
 
     /// The letters of a word.
@@ -88,5 +82,13 @@ impl Word {
             Word::True => "true",
             Word::False => "false",
         }
+    }
+}
+
+impl fmt::Display for Word {
+    ghost output = { λ w. Some (letters w) };
+
+    fn fmt<W: fmt::Write>(&self, f: &mut fmt::Formatter<W>) -> fmt::Result {
+        f.write_str(self.text())
     }
 }

@@ -1,22 +1,23 @@
-use Rattle.std.proofs.Common.{◌≡◌, map, length, ap, subst}
-use Rattle.outline.specs.Code.{ops}
-use Rattle.outline.specs.Names.{names}
-use Rattle.parser.specs.Parsing as parsing
-use Rattle.tokens.specs.Tokens.{placed, token_of}
-use Rattle.sheet.proofs.Judged.{Stages, checked, correct, found, staged}
+use Rattle.std.proofs.Common.{length}
+use Rattle.sheet.proofs.Judged.{Read, checked, correct, found, phases_read, staged}
 use Rattle.sheet.proofs.judge.judge_phases.Goals as goal
-use Rattle.sheet.proofs.judge.judge_phases.Goals.{In-Ok-check_outline}
+use Rattle.sheet.proofs.judge.judge_phases.Goals.{In_ok-outline}
+use Rattle.std.proofs.lemmas.Result.{err_from_is_err_and}
 
-all_found : (c : In-Ok-check_outline) → Stages (length c.args.memory.now) c.args.source.now (record { declared = names c.in-Ok-parse_tokens.outline.declared; body = c.in-Ok-parse_tokens.ensures.0 }) (placed c.in-Ok.tokens)
-all_found c = found c.in-Ok-parse_tokens.ensures.0 c.if-memory-lt-MOST_PARTS.false c.in-Ok.ensures.defined (subst (λ l. parsing.parsing (length c.args.memory.now) (length c.args.source.now) l ≡ parsing.passed (record { declared = names c.in-Ok-parse_tokens.outline.declared; body = c.in-Ok-parse_tokens.ensures.0 })) (ap (map token_of) c.as_slice.ensures.value) c.in-Ok-parse_tokens.ensures.1) c.in-Ok-parse_tokens.ensures.2 c.in-Ok-check_outline.ensures.0 c.in-Ok-check_outline.ensures.1
+phases : (c : In_ok-outline) → Read (length c.args.memory.now) c.args.source.now c.in_ok-tokens.tokens c.in_ok-outline.outline
+phases c = phases_read c.in_ok-tokens.tokens c.in_ok-outline.outline c.read_tokens.result c.as_slice.result.now c.parse_tokens.result c.if-memory-lt-MOST_PARTS.false c.read_tokens.ensures.defined c.in_ok-tokens.ensures.cases c.as_slice.ensures.value c.parse_tokens.ensures c.in_ok-outline.ensures.cases
+
+pub returns-in_err-check_outline : goal.returns-in_err-check_outline
+returns-in_err-check_outline c =
+    let p = err_from_is_err_and c.from_residual-in_err-check_outline.result c.from_residual-in_err-check_outline.ensures.1 in
+    rw (p.1, p.2) (checked (phases (goal.at.returns-in_err-check_outline c).In_ok-outline) c.in_err-check_outline.field-0.0 c.in_err-check_outline.ensures)
 
 pub invariant_of-result : goal.invariant_of-result
-invariant_of-result c = record { correct = ∣ correct (all_found (goal.at.invariant_of-result c).In-Ok-check_outline) c.in-Ok-parse_tokens.ensures.2 ∣₁ }
-
-pub returns-in-Ok-check_outline : goal.returns-in-Ok-check_outline
-returns-in-Ok-check_outline c =
-    (c.in-Ok-parse_tokens.ensures.0, staged (all_found (goal.at.returns-in-Ok-check_outline c).In-Ok-check_outline), c.in-Ok-parse_tokens.ensures.2)
+invariant_of-result c =
+    let r = phases (goal.at.invariant_of-result c).In_ok-outline in
+    record { correct = ∣ correct (found r c.in_ok-check_outline.ensures) r.code ∣₁ }
 
 pub returns : goal.returns
 returns c =
-    checked (length c.args.memory.now) c.args.source.now (placed c.in-Ok.tokens) (names c.in-Ok-parse_tokens.outline.declared) (ops c.in-Ok-parse_tokens.outline.code) c.in-Ok-parse_tokens.ensures.0 c.in-Err.error c.if-memory-lt-MOST_PARTS.false c.in-Ok.ensures.defined (subst (λ l. parsing.parsing (length c.args.memory.now) (length c.args.source.now) l ≡ parsing.passed (record { declared = names c.in-Ok-parse_tokens.outline.declared; body = c.in-Ok-parse_tokens.ensures.0 })) (ap (map token_of) c.as_slice.ensures.value) c.in-Ok-parse_tokens.ensures.1) c.in-Ok-parse_tokens.ensures.2 c.in-Err.ensures
+    let r = phases (goal.at.returns c).In_ok-outline in
+    (r.body, staged (found r c.in_ok-check_outline.ensures), r.code)
