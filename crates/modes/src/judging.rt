@@ -4,7 +4,7 @@ ghost use Rattle.modes.specs.Answer.{Answers};
 ghost use Rattle.modes.specs.Declaring.{lookup};
 ghost use Rattle.modes.specs.Flatly.{applying, flatly, gone, step, storing, testing};
 ghost use Rattle.modes.specs.Judging.{named, result_of};
-ghost use Rattle.modes.specs.Progress.{Finds, Steps, Takes, TakesTwo, entries, entry_of, names, primitive_in};
+ghost use Rattle.modes.specs.Progress.{Finds, Steps, Takes, TakesTwo, entries, entry_of, primitive_in};
 ghost use Rattle.outline.specs.Code.{op_of, operator_of};
 ghost use Rattle.outline.specs.Names.{declared_of, primitive_of};
 
@@ -22,12 +22,11 @@ pub fn check_statements(
 ) -> Result<(), Failure<Fault>>
     ensures { Answers (flatly (map declared_of declared.now) [] (map op_of code.now)) result }
 {
-    let mut judge = Judge {
-        declared,
-        stack: Vec::new(heap),
+    let mut stack = Stack {
+        values: Vec::new(heap),
     };
     for instruction in code {
-        judge.advance(*instruction)?;
+        stack.advance(declared, *instruction)?;
     }
     Ok(())
 }
@@ -54,33 +53,36 @@ impl Value {
     }
 }
 
-/// A judgement under way: the declared names, and the values and targets that the code has left so far.
+/// The values and targets that the code has left so far.
 #[derive(Drop)]
-struct Judge<'d, 'a> {
-    declared: &'d [Declared<'a>],
-    stack: Vec<Value>,
+struct Stack {
+    values: Vec<Value>,
 }
 
 // A stack with too few values for a step is no fault of the sheet: the flat form of a tree leads to none.
-impl Judge<'_, '_> {
-    /// Takes one step of the code.
-    fn advance(&mut self, instruction: Instruction<'_>) -> Result<(), Failure<Fault>>
-        ensures { Steps self.old (step (names self.old) (entries self.old) (op_of instruction.entry)) result self.new }
+impl Stack {
+    /// Takes one step of the code, under the declared names.
+    fn advance(
+        &mut self,
+        declared: &[Declared<'_>],
+        instruction: Instruction<'_>,
+    ) -> Result<(), Failure<Fault>>
+        ensures { Steps (step (map declared_of declared.now) (entries self.old) (op_of instruction.entry)) result (entries self.new) }
     {
         match instruction {
             Instruction::Load(place, name) => {
-                self.push(Value::plain(place, self.find(place, name)?.primitive))
+                self.push(Value::plain(place, find(declared, place, name)?.primitive))
             }
             Instruction::Number(place, _) => self.push(Value::plain(place, Primitive::Int)),
             Instruction::Truth(place, _) => self.push(Value::plain(place, Primitive::Bool)),
             Instruction::Apply(place, operator) => self.apply(place, operator),
             Instruction::Target(place, name) | Instruction::Refer(place, name) => {
-                self.push(self.find(place, name)?)
+                self.push(find(declared, place, name)?)
             }
             Instruction::Store => self.store(),
             Instruction::Test(place) | Instruction::Enter(place) => self.test(place),
             Instruction::Read(_, place, name) => {
-                self.find(place, name)?;
+                find(declared, place, name)?;
                 Ok(())
             }
             Instruction::Write(_) => {
@@ -94,43 +96,24 @@ impl Judge<'_, '_> {
         }
     }
 
-    /// A name as it stands, with its references.
-    fn find(&self, place: usize, name: &str) -> Result<Value, Refusal<Fault>>
-        ensures { Finds (named place (lookup (names self.now) name.now)) place result }
-    {
-        let Some(one) = self.declared.iter().find(|one| one.name == name) else {
-            return Err(Refusal {
-                fault: Fault::NotDeclared,
-                place,
-            });
-        };
-        Ok(Value {
-            place,
-            refs: one.refs as u128 + 1,
-            primitive: one.primitive,
-        })
-    }
-
     /// One value more on the stack.
     fn push(&mut self, top: Value) -> Result<(), Failure<Fault>>
-        ensures { Steps self.old (gone (entry_of top ∷ entries self.old)) result self.new }
+        ensures { Steps (gone (entry_of top ∷ entries self.old)) result (entries self.new) }
     {
-        self.stack.push(top)?;
+        self.values.push(top)?;
         Ok(())
     }
 
     /// The value on top of the stack.
     fn pop(&mut self) -> Option<Value>
-        ensures stays { names self.new ≡ names self.old }
-        ensures top { Takes (entries self.old) result (entries self.new) }
+        ensures { Takes (entries self.old) result (entries self.new) }
     {
-        self.stack.pop()
+        self.values.pop()
     }
 
     /// The two values on top of the stack, the upper one last.
     fn operands(&mut self) -> Option<(Value, Value)>
-        ensures stays { names self.new ≡ names self.old }
-        ensures two { TakesTwo (entries self.old) result (entries self.new) }
+        ensures { TakesTwo (entries self.old) result (entries self.new) }
     {
         let right = self.pop()?;
         let left = self.pop()?;
@@ -139,7 +122,7 @@ impl Judge<'_, '_> {
 
     /// An operator on the two values on top of the stack.
     fn apply(&mut self, place: usize, operator: Operator) -> Result<(), Failure<Fault>>
-        ensures { Steps self.old (applying place (operator_of operator) (entries self.old)) result self.new }
+        ensures { Steps (applying place (operator_of operator) (entries self.old)) result (entries self.new) }
     {
         let Some((left, right)) = self.operands() else {
             return Ok(());
@@ -152,7 +135,7 @@ impl Judge<'_, '_> {
 
     /// The end of an assignment.
     fn store(&mut self) -> Result<(), Failure<Fault>>
-        ensures { Steps self.old (storing (entries self.old)) result self.new }
+        ensures { Steps (storing (entries self.old)) result (entries self.new) }
     {
         let Some((target, value)) = self.operands() else {
             return Ok(());
@@ -170,7 +153,7 @@ impl Judge<'_, '_> {
 
     /// The condition of an `if` or a `while`.
     fn test(&mut self, place: usize) -> Result<(), Failure<Fault>>
-        ensures { Steps self.old (testing place (entries self.old)) result self.new }
+        ensures { Steps (testing place (entries self.old)) result (entries self.new) }
     {
         if let Some(value) = self.pop()
             && value.primitive != Primitive::Bool
@@ -179,6 +162,23 @@ impl Judge<'_, '_> {
         }
         Ok(())
     }
+}
+
+/// A name as it stands, with its references.
+fn find(declared: &[Declared<'_>], place: usize, name: &str) -> Result<Value, Refusal<Fault>>
+    ensures { Finds (named place (lookup (map declared_of declared.now) name.now)) place result }
+{
+    let Some(one) = declared.iter().find(|one| one.name == name) else {
+        return Err(Refusal {
+            fault: Fault::NotDeclared,
+            place,
+        });
+    };
+    Ok(Value {
+        place,
+        refs: one.refs as u128 + 1,
+        primitive: one.primitive,
+    })
 }
 
 /// The primitive mode of an operator's result, where the operands suit it.

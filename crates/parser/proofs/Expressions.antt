@@ -1,5 +1,5 @@
 -- What the machine does at each token of an expression, held to what the parser does there.
-use Rattle.std.proofs.Common.{◌≡◌, ℕ, ◌+◌, ◌<◌, ◌≤◌, Bool, true, false, ◌||◌, ltb, List, [], ◌∷◌, ◌++◌, map, length, Some, None, Ok, Err, vec_items, Option, Result, Vec, unwrap_or, sym, refl, ap, ◌∙◌, subst, inl, inr, append_assoc, append-nil, arith}
+use Rattle.std.proofs.Common.{◌≡◌, ℕ, ◌+◌, ◌<◌, ◌≤◌, Bool, true, false, if◌then◌else◌, ◌||◌, ltb, List, [], ◌∷◌, ◌++◌, map, length, Some, None, Ok, Err, vec_items, Option, Result, Vec, unwrap_or, sym, refl, ap, ◌∙◌, subst, inl, inr, append_assoc, append-nil, arith}
 use Rattle.grammar.specs.Machine.{Level, State, after, closed, either, factor_of, fresh, is_sign, leaf, only, take_operator, value_of, with_operand}
 use Rattle.grammar.specs.Tree.{Expr, Operator, plus, times, variable, binary, group}
 use Rattle.outline.specs.Code.{Op, apply, op_of, operator_of, ops, postfix}
@@ -16,7 +16,7 @@ use Rattle.parser.specs.declared.parser.Parser.{Parser}
 use Rattle.refusals.specs.declared.failure.Failure.{Failure}
 use Rattle.refusals.specs.declared.failure.Failure.TheVariants.{Refused, Memory}
 use Rattle.std.proofs.lemmas.List.{map_push}
-use Rattle.std.proofs.lemmas.Bool.{cond-false, le-ltb, or_from}
+use Rattle.std.proofs.lemmas.Bool.{cond-false, cond-true, le-ltb, or_from}
 use Rattle.std.specs.declared.alloc.Global.{Global}
 use Rattle.tokens.specs.Tokens.{Kind, sign, Placed, kind_of, token_of}
 use Rattle.tokens.specs.declared.sign.Sign as signs
@@ -200,8 +200,9 @@ leaf_done {end} {spare} {ts} {us} {was} t i first is pushed =
       code = pushed ∙ ap (λ l. was ++ l) (sym f.2);
     }
 
-pub pushed_ops : (v w : Vec Instruction Global) (i : Instruction) → vec_items w ≡ vec_items v ++ i ∷ [] → ops w ≡ ops v ++ op_of i ∷ []
-pushed_ops v w i e = ap (map op_of) e ∙ map_push op_of (vec_items v) i
+-- the code after a step has been pushed
+pub pushed_ops : (v w : Vec Instruction Global) (i : Instruction) {pushed : Bool} → pushed ≡ true → vec_items w ≡ (if pushed then vec_items v ++ i ∷ [] else vec_items v) → ops w ≡ ops v ++ op_of i ∷ []
+pushed_ops v w i is e = ap (map op_of) (e ∙ cond-true _ _ _ is) ∙ map_push op_of (vec_items v) i
 
 -- between parentheses: one expression
 pub one_enclosed : {spare : ℕ} (was mid now : Parser Instruction) (r : Result (Unit {0}) (Failure Fault)) → mid.end ≡ was.end → Done was.end spare NoSum NoPlus (left was) (left mid) (code was) (code mid) → NoComparison (left mid) → Expects (sign Close) mid r now → Encloses spare was r now

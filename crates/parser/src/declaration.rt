@@ -24,6 +24,7 @@ pub(crate) enum ModeWord {
 }
 
 /// A mode that has been read.
+// A declared name has both as fields of its own, since a sheet shows them so.
 #[derive(Clone, Copy)]
 pub(crate) struct Mode {
     refs: usize,
@@ -126,9 +127,8 @@ impl<'t, 'a> Parser<'t, 'a, Declared<'a>> {
     fn mode_begins(&self) -> bool
         ensures { Moding self.now result }
     {
-        match self.rest.first() {
-            Some(token) => mode_word(token.kind).is_some(),
-            None => false,
-        }
+        self.rest
+            .first()
+            .is_some_and(|token| mode_word(token.kind).is_some())
     }
 }

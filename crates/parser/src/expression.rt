@@ -79,6 +79,7 @@ impl<'t, 'a> Parser<'t, 'a, Instruction<'a>> {
         Ok(())
     }
 
+    // A `match`, and no function handed on: that the calls end is told by the rank.
     #[cycle(comparison_joined_operand_primary)]
     fn operand(&mut self, rank: Rank, spare: usize) -> Result<(), Failure<Fault>>
         ensures { Parses spare (Level_under rank) (Rest_under rank) self.old result self.new }

@@ -12,6 +12,7 @@ pub enum Fault {
     MemoryShort = 23,
 }
 
+// The cast is of this enum alone, so each phase's faults have these lines.
 impl Numbered for Fault {
     ghost number_of = { number_of };
 

@@ -43,12 +43,9 @@ fn opens<'a>(kind: TokenKind<'a>) -> Option<Opener<'a>>
 fn operator_first(tokens: &[Token<'_>]) -> bool
     ensures { NoOperator tokens.now result }
 {
-    match tokens.first() {
-        Some(token) => {
-            token.kind == TokenKind::Sign(Sign::Star) || token.kind == TokenKind::Sign(Sign::Plus)
-        }
-        None => false,
-    }
+    tokens.first().is_some_and(|token| {
+        token.kind == TokenKind::Sign(Sign::Star) || token.kind == TokenKind::Sign(Sign::Plus)
+    })
 }
 
 impl<'t, 'a> Parser<'t, 'a, Instruction<'a>> {

@@ -10,7 +10,8 @@ const NARROW: u32 = 65_535;
 const WIDE: u32 = 2_147_483_647;
 
 /// Numbers up to 65,535; above it there is no result.
-// A type of its own beside `WideStrict`, and no constant as a parameter: at 0 and above 2,147,483,647 the law would be false.
+// A type of its own beside `WideStrict`: with a constant as a parameter the law would be false at 0, and a type that carries the
+// constant with a proof of its bounds would be longer than this.
 pub struct NarrowStrict;
 
 impl ExactRule for NarrowStrict {

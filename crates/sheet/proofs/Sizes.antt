@@ -5,7 +5,12 @@ use Rattle.outline.specs.Code.{Op, apply, enter, flat, flats, join, op_of, other
 use Rattle.outline.specs.declared.code.Instruction.{Instruction}
 use Rattle.std.proofs.lemmas.List.Recursion.{is_count_by}
 use Rattle.std.specs.List.{count_by}
-use Rattle.sheet.specs.Sizes.{counted, size, size_of, stands_for_one}
+use Rattle.sheet.specs.Sizes.{size, size_of, stands_for_one}
+
+-- how many such steps there are
+abbrev pub counted : List Op → ℕ
+counted [] = 0
+counted (o ∷ os) = cond (stands_for_one o) 1 0 + counted os
 
 counted_both : (a b : List Op) → counted (a ++ b) ≡ counted a + counted b
 counted_both [] b = omega arith

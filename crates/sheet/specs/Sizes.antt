@@ -1,5 +1,5 @@
 -- How many statements a sheet has, and what its parts are.
-use Rattle.std.specs.Prelude.{ℕ, ◌+◌, Bool, true, false, cond, List, [], ◌∷◌, vec_items}
+use Rattle.std.specs.Prelude.{ℕ, ◌+◌, Bool, true, false, List, vec_items}
 use Rattle.grammar.specs.Tree as tree
 use Rattle.grammar.specs.Tree.{Stmt, assign, choose, choose_else, loop, input, output, Train, last, more}
 use Rattle.outline.specs.Code.{Op, load, push, push_truth, apply, target, refer, store, test, otherwise, join, head, enter, repeat, read, write, ops}
@@ -38,11 +38,6 @@ stands_for_one (enter p) = false
 stands_for_one repeat = false
 stands_for_one (read p q n) = true
 stands_for_one (write p) = true
-
--- how many such steps there are
-abbrev pub counted : List Op → ℕ
-counted [] = 0
-counted (o ∷ os) = cond (stands_for_one o) 1 0 + counted os
 
 -- the declared names and the code of a sheet
 abbrev pub declared_in : Sheet → List Declared

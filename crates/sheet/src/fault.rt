@@ -25,26 +25,27 @@ impl Numbered for Fault {
     }
 }
 
+// Three, and none for any phase: each puts the fault into a case of its own.
 impl From<tokens::fault::Fault> for Fault {
     ghost from_gives = { λ f r. r ≡ fault.Text f };
 
-    fn from(fault: tokens::fault::Fault) -> Fault {
-        Fault::Text(fault)
+    fn from(text: tokens::fault::Fault) -> Fault {
+        Fault::Text(text)
     }
 }
 
 impl From<parser::fault::Fault> for Fault {
     ghost from_gives = { λ f r. r ≡ fault.Grammar f };
 
-    fn from(fault: parser::fault::Fault) -> Fault {
-        Fault::Grammar(fault)
+    fn from(grammar: parser::fault::Fault) -> Fault {
+        Fault::Grammar(grammar)
     }
 }
 
 impl From<modes::fault::Fault> for Fault {
     ghost from_gives = { λ f r. r ≡ fault.Modes f };
 
-    fn from(fault: modes::fault::Fault) -> Fault {
-        Fault::Modes(fault)
+    fn from(modes: modes::fault::Fault) -> Fault {
+        Fault::Modes(modes)
     }
 }

@@ -54,6 +54,5 @@ fn check_outline(heap: Global, outline: &Outline<'_>) -> Result<(), Failure<Faul
 {
     let declared = outline.declared.as_slice();
     check_declared(declared)?;
-    check_statements(heap, declared, outline.code.as_slice()).map_err(Failure::widen)?;
-    Ok(())
+    check_statements(heap, declared, outline.code.as_slice()).map_err(Failure::widen)
 }

@@ -12,7 +12,7 @@ pub use full::Full;
 
 /// The first `height` cells are the items, the oldest first. What the other cells hold decides nothing,
 /// and what the lent memory holds once the stack is gone is free.
-// A height beside the cells, and no `Vec`: the memory is lent, and none may be asked of the heap.
+// A height beside the cells, and no `Vec`: the caller lends the memory, and a stack asks the heap for none.
 #[derive(Drop)]
 pub struct Stack<'a, T> {
     cells: &'a mut [T],

@@ -14,6 +14,7 @@ pub enum Fault {
     TooManyTokens = 6,
 }
 
+// The cast is of this enum alone, so each phase's faults have these lines.
 impl Numbered for Fault {
     ghost number_of = { number_of };
 

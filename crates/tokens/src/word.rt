@@ -44,6 +44,7 @@ static WORDS: [Word; 15] = [
 
 impl Word {
     /// The word that a run of small letters forms, if it forms one.
+    // A function, and no `TryFrom<&[u8]>`, whose error would say what `None` says.
     pub fn of_run(run: &[u8]) -> Option<Word>
         ensures defined { result ≡ word_of run.now }
         ensures spelt { Spells run.now result }

@@ -1,6 +1,5 @@
 use Rattle.std.proofs.Common.{[], ◌∷◌, ◌++◌, is_ok, ap, ◌∙◌, subst}
 use Rattle.outline.specs.Code.{ops, target}
-use Rattle.std.proofs.ResultArms.{chosen}
 use Rattle.std.proofs.lemmas.Result.{err_from_is_err_and}
 use Rattle.parser.specs.Looks.{left}
 use Rattle.parser.specs.Progress.{code}
@@ -18,7 +17,5 @@ returns-in_err-source c =
 pub returns : goal.returns
 returns c =
     let w = c.in_ok-expect.ensures in
-    let pushed = chosen _ _ _ _ c.push.ensures.items (ap is_ok c.in_ok-push.was) in
-    let stored = chosen _ _ _ _ c.push-2.ensures.items (ap is_ok c.in_ok-push-2.was) in
     let d = c.in_ok-source.ensures in
-    (d.0 ∙ w.3.0, assignment_done c.args.self.now.end c.args.place c.args.name.now w.0 w.1 w.2 (pushed_ops c.expect.new.self.out c.push.new.self _ pushed ∙ ap (λ v. ops v ++ target c.args.place c.args.name.now ∷ []) w.3.1) (subst (λ n. Sourced n (left c.expect.new.self) (left c.source.new.self) (ops c.push.new.self) (code c.source.new.self)) w.3.0 d.1) (pushed_ops c.source.new.self.out c.push-2.new.self _ stored))
+    (d.0 ∙ w.3.0, assignment_done c.args.self.now.end c.args.place c.args.name.now w.0 w.1 w.2 (pushed_ops c.expect.new.self.out c.push.new.self _ (ap is_ok c.in_ok-push.was) c.push.ensures.items ∙ ap (λ v. ops v ++ target c.args.place c.args.name.now ∷ []) w.3.1) (subst (λ n. Sourced n (left c.expect.new.self) (left c.source.new.self) (ops c.push.new.self) (code c.source.new.self)) w.3.0 d.1) (pushed_ops c.source.new.self.out c.push-2.new.self _ (ap is_ok c.in_ok-push-2.was) c.push-2.ensures.items))

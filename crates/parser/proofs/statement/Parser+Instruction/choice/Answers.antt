@@ -1,5 +1,4 @@
 use Rattle.std.proofs.Common.{is_ok, ap}
-use Rattle.std.proofs.ResultArms.{chosen}
 use Rattle.std.proofs.lemmas.Result.{err_from_is_err_and}
 use Rattle.parser.specs.Looks.{left}
 use Rattle.parser.proofs.Expressions.{pushed_ops}
@@ -13,5 +12,4 @@ returns-in_err-condition c =
 
 pub returns : goal.returns
 returns c =
-    let pushed = chosen _ _ _ _ c.push.ensures.items (ap is_ok c.in_ok-push.was) in
-    (c.in_ok-condition.ensures.0, choice_done c.args.place c.in_ok-condition.ensures.1 (pushed_ops c.condition.new.self.out c.push.new.self _ pushed))
+    (c.in_ok-condition.ensures.0, choice_done c.args.place c.in_ok-condition.ensures.1 (pushed_ops c.condition.new.self.out c.push.new.self _ (ap is_ok c.in_ok-push.was) c.push.ensures.items))

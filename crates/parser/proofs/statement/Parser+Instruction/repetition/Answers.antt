@@ -1,5 +1,4 @@
 use Rattle.std.proofs.Common.{is_ok, ap}
-use Rattle.std.proofs.ResultArms.{chosen}
 use Rattle.std.proofs.lemmas.Result.{err_from_is_err_and}
 use Rattle.parser.specs.Looks.{left}
 use Rattle.parser.proofs.Expressions.{pushed_ops}
@@ -13,6 +12,4 @@ returns-in_err-condition c =
 
 pub returns : goal.returns
 returns c =
-    let first = chosen _ _ _ _ c.push.ensures.items (ap is_ok c.in_ok-push.was) in
-    let pushed = chosen _ _ _ _ c.push-2.ensures.items (ap is_ok c.in_ok-push-2.was) in
-    (c.in_ok-condition.ensures.0, repetition_done c.args.place (pushed_ops c.args.self.now.out c.push.new.self _ first) c.in_ok-condition.ensures.1 (pushed_ops c.condition.new.self.out c.push-2.new.self _ pushed))
+    (c.in_ok-condition.ensures.0, repetition_done c.args.place (pushed_ops c.args.self.now.out c.push.new.self _ (ap is_ok c.in_ok-push.was) c.push.ensures.items) c.in_ok-condition.ensures.1 (pushed_ops c.condition.new.self.out c.push-2.new.self _ (ap is_ok c.in_ok-push-2.was) c.push-2.ensures.items))
