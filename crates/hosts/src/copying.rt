@@ -15,6 +15,7 @@ pub struct Copied {
 
 /// Reads up to `most` items and writes each as it was read. What is answered and what the host then holds depend on nothing
 /// but `most` and what it held.
+#[tactic(auto, using(crate::proofs::Copies::copied_all, crate::proofs::Copies::copied_none, crate::proofs::Copies::copied_one, crate::proofs::Copies::lawful))]
 pub fn copy_readings<H: Host>(host: &mut H, most: usize) -> Copied
     ensures defined { (result, holding H.left H.said H.room host.new) ≡ copying_up_to most (holding H.left H.said H.room host.old) }
     ensures lawful { Copies most (holding H.left H.said H.room host.old) result (holding H.left H.said H.room host.new) }

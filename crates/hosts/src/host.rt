@@ -7,6 +7,7 @@ use crate::exchange::{Cause, Item, Value};
 
 /// A host: what supplies readings and takes verdicts. It is known by three members alone: the items still to be read, the values
 /// written, the oldest first, and how many more it takes. Two hosts are alike if these three are equal.
+// Three members, and no record of them: each clause speaks of one, and a host's own type shows each by itself.
 pub trait Host {
     ghost left: { Self → List Item };
 

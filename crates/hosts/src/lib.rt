@@ -3,6 +3,7 @@
 
 pub mod copying;
 pub mod exchange;
+pub mod fault;
 mod host;
 
 pub use host::Host;

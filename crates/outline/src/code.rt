@@ -9,6 +9,7 @@ pub enum Operator {
 }
 
 /// One step of the flat form. A number that comes first is the place in the source.
+// No pair of a place and a name: operators and constants have places too, and a name of its own would stand in four of these alone.
 #[derive(Clone, Copy)]
 pub enum Instruction<'a> {
     /// The value of a name.

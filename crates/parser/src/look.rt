@@ -8,6 +8,7 @@ use refusals::Failure;
 use tokens::sign::Sign;
 use tokens::token::{Token, TokenKind};
 
+// The rest is taken by index, and not by `split_first`: the check does not cover a field that is given a part of such a pair.
 impl<'t, 'a, T> Parser<'t, 'a, T> {
     /// Takes the next token; where there is none, the source ends early.
     pub(crate) fn next(&mut self) -> Result<Token<'a>, Failure<Fault>>

@@ -9,92 +9,60 @@ mod tests {
     use rules::cause::{Cause, try_product, try_total};
     use rules::{Capped, NarrowStrict, NumberRule, Turning, WideStrict};
 
-    /// What the four rules answer.
-    #[derive(Clone, Copy, PartialEq, Eq, Debug)]
-    struct Answers {
-        narrow: Option<u32>,
-        wide: Option<u32>,
-        capped: Option<u32>,
-        turning: Option<u32>,
-    }
+    /// What the four rules answer: narrow strict, wide strict, capped and turning.
+    type Answers = (Option<u32>, Option<u32>, Option<u32>, Option<u32>);
 
     // The clauses of these two are what a caller who names a rule knows of it, on all pairs of numbers.
     fn totals(a: u32, b: u32) -> Answers
-        ensures narrow { result.narrow ≡ under 65535 (strict 65535) ◌+◌ a b }
-        ensures wide { result.wide ≡ under 2147483647 (strict 2147483647) ◌+◌ a b }
-        ensures capped { result.capped ≡ under 65535 (capped 65535) ◌+◌ a b }
-        ensures turning { result.turning ≡ under 65535 (turning 65535) ◌+◌ a b }
+        ensures narrow { result.0 ≡ under 65535 (strict 65535) ◌+◌ a b }
+        ensures wide { result.1 ≡ under 2147483647 (strict 2147483647) ◌+◌ a b }
+        ensures capped { result.2 ≡ under 65535 (capped 65535) ◌+◌ a b }
+        ensures turning { result.3 ≡ under 65535 (turning 65535) ◌+◌ a b }
     {
-        Answers {
-            narrow: NarrowStrict::total(a, b),
-            wide: WideStrict::total(a, b),
-            capped: Capped::total(a, b),
-            turning: Turning::total(a, b),
-        }
+        (
+            NarrowStrict::total(a, b),
+            WideStrict::total(a, b),
+            Capped::total(a, b),
+            Turning::total(a, b),
+        )
     }
 
     fn products(a: u32, b: u32) -> Answers
-        ensures narrow { result.narrow ≡ under 65535 (strict 65535) ◌*◌ a b }
-        ensures wide { result.wide ≡ under 2147483647 (strict 2147483647) ◌*◌ a b }
-        ensures capped { result.capped ≡ under 65535 (capped 65535) ◌*◌ a b }
-        ensures turning { result.turning ≡ under 65535 (turning 65535) ◌*◌ a b }
+        ensures narrow { result.0 ≡ under 65535 (strict 65535) ◌*◌ a b }
+        ensures wide { result.1 ≡ under 2147483647 (strict 2147483647) ◌*◌ a b }
+        ensures capped { result.2 ≡ under 65535 (capped 65535) ◌*◌ a b }
+        ensures turning { result.3 ≡ under 65535 (turning 65535) ◌*◌ a b }
     {
-        Answers {
-            narrow: NarrowStrict::product(a, b),
-            wide: WideStrict::product(a, b),
-            capped: Capped::product(a, b),
-            turning: Turning::product(a, b),
-        }
-    }
-
-    fn all_four(
-        narrow: Option<u32>,
-        wide: Option<u32>,
-        capped: Option<u32>,
-        turning: Option<u32>,
-    ) -> Answers {
-        Answers {
-            narrow,
-            wide,
-            capped,
-            turning,
-        }
+        (
+            NarrowStrict::product(a, b),
+            WideStrict::product(a, b),
+            Capped::product(a, b),
+            Turning::product(a, b),
+        )
     }
 
     #[test]
     fn totals_at_the_edges(rt: HostRuntime) {
         for (a, b, want) in [
-            (0, 0, all_four(Some(0), Some(0), Some(0), Some(0))),
+            (0, 0, (Some(0), Some(0), Some(0), Some(0))),
             (
                 65_535,
                 0,
-                all_four(Some(65_535), Some(65_535), Some(65_535), Some(65_535)),
+                (Some(65_535), Some(65_535), Some(65_535), Some(65_535)),
             ),
-            (
-                65_535,
-                1,
-                all_four(None, Some(65_536), Some(65_535), Some(0)),
-            ),
+            (65_535, 1, (None, Some(65_536), Some(65_535), Some(0))),
             (
                 65_535,
                 65_535,
-                all_four(None, Some(131_070), Some(65_535), Some(65_534)),
+                (None, Some(131_070), Some(65_535), Some(65_534)),
             ),
-            (65_536, 0, all_four(None, Some(65_536), None, None)),
-            (0, 65_536, all_four(None, Some(65_536), None, None)),
-            (
-                2_147_483_647,
-                0,
-                all_four(None, Some(2_147_483_647), None, None),
-            ),
-            (2_147_483_647, 1, all_four(None, None, None, None)),
-            (2_147_483_648, 0, all_four(None, None, None, None)),
-            (0, 2_147_483_648, all_four(None, None, None, None)),
-            (
-                4_294_967_295,
-                4_294_967_295,
-                all_four(None, None, None, None),
-            ),
+            (65_536, 0, (None, Some(65_536), None, None)),
+            (0, 65_536, (None, Some(65_536), None, None)),
+            (2_147_483_647, 0, (None, Some(2_147_483_647), None, None)),
+            (2_147_483_647, 1, (None, None, None, None)),
+            (2_147_483_648, 0, (None, None, None, None)),
+            (0, 2_147_483_648, (None, None, None, None)),
+            (4_294_967_295, 4_294_967_295, (None, None, None, None)),
         ] {
             assert_eq!(rt; totals(a, b), want, "at {a} {b}");
         }
@@ -106,32 +74,16 @@ mod tests {
             (
                 255,
                 257,
-                all_four(Some(65_535), Some(65_535), Some(65_535), Some(65_535)),
+                (Some(65_535), Some(65_535), Some(65_535), Some(65_535)),
             ),
-            (
-                256,
-                256,
-                all_four(None, Some(65_536), Some(65_535), Some(0)),
-            ),
-            (65_535, 65_535, all_four(None, None, Some(65_535), Some(1))),
-            (65_536, 0, all_four(None, Some(0), None, None)),
-            (0, 65_536, all_four(None, Some(0), None, None)),
-            (
-                46_341,
-                46_341,
-                all_four(None, None, Some(65_535), Some(4_633)),
-            ),
-            (
-                2_147_483_647,
-                1,
-                all_four(None, Some(2_147_483_647), None, None),
-            ),
-            (2_147_483_648, 1, all_four(None, None, None, None)),
-            (
-                4_294_967_295,
-                4_294_967_295,
-                all_four(None, None, None, None),
-            ),
+            (256, 256, (None, Some(65_536), Some(65_535), Some(0))),
+            (65_535, 65_535, (None, None, Some(65_535), Some(1))),
+            (65_536, 0, (None, Some(0), None, None)),
+            (0, 65_536, (None, Some(0), None, None)),
+            (46_341, 46_341, (None, None, Some(65_535), Some(4_633))),
+            (2_147_483_647, 1, (None, Some(2_147_483_647), None, None)),
+            (2_147_483_648, 1, (None, None, None, None)),
+            (4_294_967_295, 4_294_967_295, (None, None, None, None)),
         ] {
             assert_eq!(rt; products(a, b), want, "at {a} {b}");
         }

@@ -5,7 +5,7 @@ use scan_report::report;
 use std::io;
 use std::io::Read;
 
-// `judge` differs in the report alone. A function for both would have to ask of its report that it may be called, for three calls
+// The programs differ in the report alone. A function for all would have to ask of its report that it may be called, for three calls
 // of the library.
 fn main(rt: HostRuntime) -> io::Result<()> {
     let mut source = Vec::new(rt.alloc());

@@ -1,0 +1,4 @@
+-- The definitions that the contracts cite.
+pub mod Cells
+pub mod Codes
+pub mod Readings

@@ -1,0 +1,15 @@
+// Reads typed readings on standard input, and prints what was understood.
+#![tactic(auto)]
+
+use readings_report::report;
+use std::io;
+use std::io::Read;
+
+// The programs differ in the report alone. A function for all would have to ask of its report that it may be called, for three calls
+// of the library.
+fn main(rt: HostRuntime) -> io::Result<()> {
+    let mut source = Vec::new(rt.alloc());
+    rt.stdin().read_to_end(&mut source)?;
+    let text = report(rt.alloc(), source.as_slice())?;
+    rt.print(text.as_str())
+}

@@ -1,0 +1,5 @@
+mod Digits
+mod Lawful
+mod Lines
+mod Memory
+mod Runs
