@@ -4,4 +4,6 @@
 #[cfg(test)]
 mod probe;
 #[cfg(test)]
+mod report;
+#[cfg(test)]
 mod text;

@@ -70,10 +70,17 @@ fn a_probe_host_writes(rt: HostRuntime) {
     assert_eq!(rt; output, [0, 1, 2_147_483_649, 7]);
 }
 
-fn copied(input: &[u32], room: usize) -> Option<Copied> {
+/// What is copied of some numbers into so much room, and whether they are the numbers written, each by two more.
+fn copied(input: &[u32], room: usize) -> Option<(Copied, bool)> {
     let mut output = [7u32; 3];
     let mut host = ProbeHost::over(input, &mut output, room).ok()?;
-    Some(copy_readings(&mut host, 3))
+    let copied = copy_readings(&mut host, 3);
+    let same = host
+        .written()
+        .iter()
+        .zip(input)
+        .all(|(written, read)| written.checked_sub(2) == Some(*read));
+    Some((copied, same && host.written().len() == copied.count))
 }
 
 #[test]
@@ -85,14 +92,17 @@ fn readings_are_copied(rt: HostRuntime) {
         ([3, 2_147_483_647, 2_147_483_648], 3, 2, Some(Cause::Large)),
         ([3, 4_294_967_295, 5], 3, 1, Some(Cause::Unreadable)),
     ] {
-        assert_eq!(rt; copied(&input, room), Some(Copied { count, stop }));
+        assert_eq!(rt; copied(&input, room), Some((Copied { count, stop }, true)));
     }
     assert_eq!(rt;
         copied(&[3, 4], 3),
-        Some(Copied {
-            count: 2,
-            stop: Some(Cause::Empty)
-        })
+        Some((
+            Copied {
+                count: 2,
+                stop: Some(Cause::Empty)
+            },
+            true
+        ))
     );
 }
 

@@ -38,9 +38,10 @@ fn a_text_host_is_made_or_refused(rt: HostRuntime) {
     }
 }
 
-/// The first item of a text, and the second.
+/// The first item of a text, looked at twice, and the second.
 fn read(text: &str) -> Option<(Option<Item>, Option<Item>)> {
     let mut host = TextHost::over(text.as_bytes(), &mut [], 0).ok()?;
+    let _ = host.front();
     let first = host.front();
     host.take();
     Some((first, host.front()))
@@ -103,6 +104,13 @@ fn text_is_copied(rt: HostRuntime) {
         ("3 false", 3, "3\nfalse\n", 2, Some(Cause::Empty)),
         ("3 true1 4", 3, "3\n", 1, Some(Cause::Unreadable)),
         ("3 4", 1, "3\n", 1, Some(Cause::Full)),
+        (
+            "2147483647 2147483647 2147483647",
+            3,
+            "2147483647\n2147483647\n2147483647\n",
+            3,
+            None,
+        ),
         ("2147483648", 0, "", 0, Some(Cause::Full)),
         (
             "2147483647 2147483648",

@@ -1,14 +1,12 @@
--- Numbers and the values that they stand for. Other crates may cite this.
-use Rattle.std.proofs.Common.{◌≡◌, ℕ, ◌+◌, true, false, refl, arith}
-use Rattle.hosts.specs.declared.exchange.Value.{Value}
-use Rattle.hosts.specs.declared.exchange.Value.TheVariants.{Truth, Number}
+-- Numbers that were written, and the values that they stand for.
+use Rattle.std.proofs.Common.{◌≡◌, ℕ, List, [], ◌∷◌, map, refl, arith}
+use Rattle.std.proofs.lemmas.Bool.Decides.{nat_tests}
 use Rattle.probe_host.specs.Codes.{code_of, value_of}
 
-number : (n : ℕ) → value_of (n + 2) ≡ Number n
-number n = grind arith
+coded : (n : ℕ) → code_of (value_of n) ≡ n
+coded n = grind (arith, nat_tests)
 
--- decoding what was encoded gives the value back
-pub decoded : (v : Value) → value_of (code_of v) ≡ v
-decoded (Truth false) = refl
-decoded (Truth true) = refl
-decoded (Number n) = number n
+-- encoding what was decoded gives the numbers back
+pub coded_all : (ns : List ℕ) → map code_of (map value_of ns) ≡ ns
+coded_all [] = refl
+coded_all (n ∷ ns) = grind (arith, coded n, coded_all ns)

@@ -26,7 +26,6 @@ impl Host for ProbeHost<'_, '_> {
         ensures same_said { values_said self.new ≡ values_said self.old }
         ensures same_room { room_of self.new ≡ room_of self.old }
         ensures same_memory { memory self.new ≡ memory self.old }
-        ensures same_reference { self.new.output.ghost_name ≡ self.old.output.ghost_name }
     {
         if let Some((_, rest)) = self.input.split_first() {
             self.input = rest;
@@ -40,7 +39,6 @@ impl Host for ProbeHost<'_, '_> {
         ensures more_said { values_said self.new ≡ put_said result value (values_said self.old) }
         ensures less_room { room_of self.new ≡ put_room result (room_of self.old) }
         ensures one_cell { memory self.new ≡ put_memory result value (length (numbers_written self.old)) (memory self.old) }
-        ensures same_reference { self.new.output.ghost_name ≡ self.old.output.ghost_name }
     {
         if self.room == 0 {
             return Err(Cause::Full);

@@ -1,5 +1,5 @@
 // How a probe host is made.
-ghost use Rattle.std.specs.Prelude.{◌≡◌, IfOk};
+ghost use Rattle.std.specs.Prelude.{◌≡◌};
 ghost use Rattle.probe_host.specs.Cells.{Made, fault_of};
 
 use super::ProbeHost;
@@ -17,8 +17,7 @@ impl<'i, 'o> ProbeHost<'i, 'o> {
         output: &'o mut [u32],
         room: usize,
     ) -> Result<ProbeHost<'i, 'o>, Refusal<Fault>>
-        ensures made { Made input.now output.old room result }
-        ensures same_reference { IfOk result (λ h. h.output.ghost_name ≡ output.entry.ghost_name) }
+        ensures { Made input.now output.old room result }
     {
         if let Some(fault) = fault(input.len(), output.len(), room) {
             return Err(Refusal { fault, place: 0 });

@@ -83,6 +83,7 @@ mod tests {
             (46_341, 46_341, (None, None, Some(65_535), Some(4_633))),
             (2_147_483_647, 1, (None, Some(2_147_483_647), None, None)),
             (2_147_483_648, 1, (None, None, None, None)),
+            (0, 2_147_483_648, (None, None, None, None)),
             (4_294_967_295, 4_294_967_295, (None, None, None, None)),
         ] {
             assert_eq!(rt; products(a, b), want, "at {a} {b}");
