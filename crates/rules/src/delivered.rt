@@ -1,9 +1,10 @@
 // The rules that are delivered.
-ghost use Rattle.std.specs.Prelude.{◌≡◌};
-ghost use Rattle.rules.specs.Delivered.{capped, strict, turning};
+ghost use Rattle.std.specs.Prelude.{◌≡◌, ◌+◌, ◌*◌};
+ghost use Rattle.rules.specs.Delivered.{capped, strict, turning, under};
 ghost use Rattle.std.proofs.Common.{rules};
 
-use crate::exact::ExactRule;
+use crate::exact::{ExactRule, exact_product, exact_total};
+use crate::rule::NumberRule;
 
 const NARROW: u32 = 65_535;
 
@@ -28,6 +29,26 @@ impl ExactRule for NarrowStrict {
     ghost gives = { Prim.search rules };
 }
 
+impl NumberRule for NarrowStrict {
+    const GREATEST: u32 = NARROW;
+
+    ghost GREATEST = { 65535 };
+
+    ghost sum = { under 65535 (strict 65535) ◌+◌ };
+
+    ghost prod = { under 65535 (strict 65535) ◌*◌ };
+
+    fn total(a: u32, b: u32) -> Option<u32> {
+        exact_total::<NarrowStrict>(a, b)
+    }
+
+    fn product(a: u32, b: u32) -> Option<u32> {
+        exact_product::<NarrowStrict>(a, b)
+    }
+
+    ghost lawful = { Prim.search rules };
+}
+
 /// Numbers up to 2,147,483,647; above it there is no result.
 pub struct WideStrict;
 
@@ -43,6 +64,26 @@ impl ExactRule for WideStrict {
     }
 
     ghost gives = { Prim.search rules };
+}
+
+impl NumberRule for WideStrict {
+    const GREATEST: u32 = WIDE;
+
+    ghost GREATEST = { 2147483647 };
+
+    ghost sum = { under 2147483647 (strict 2147483647) ◌+◌ };
+
+    ghost prod = { under 2147483647 (strict 2147483647) ◌*◌ };
+
+    fn total(a: u32, b: u32) -> Option<u32> {
+        exact_total::<WideStrict>(a, b)
+    }
+
+    fn product(a: u32, b: u32) -> Option<u32> {
+        exact_product::<WideStrict>(a, b)
+    }
+
+    ghost lawful = { Prim.search rules };
 }
 
 /// Numbers up to 65,535; above it the result is 65,535.
@@ -62,6 +103,26 @@ impl ExactRule for Capped {
     ghost gives = { Prim.search rules };
 }
 
+impl NumberRule for Capped {
+    const GREATEST: u32 = NARROW;
+
+    ghost GREATEST = { 65535 };
+
+    ghost sum = { under 65535 (capped 65535) ◌+◌ };
+
+    ghost prod = { under 65535 (capped 65535) ◌*◌ };
+
+    fn total(a: u32, b: u32) -> Option<u32> {
+        exact_total::<Capped>(a, b)
+    }
+
+    fn product(a: u32, b: u32) -> Option<u32> {
+        exact_product::<Capped>(a, b)
+    }
+
+    ghost lawful = { Prim.search rules };
+}
+
 /// Numbers up to 65,535; above it the result is the remainder by 65,536.
 pub struct Turning;
 
@@ -77,6 +138,26 @@ impl ExactRule for Turning {
     }
 
     ghost gives = { Prim.search rules };
+}
+
+impl NumberRule for Turning {
+    const GREATEST: u32 = NARROW;
+
+    ghost GREATEST = { 65535 };
+
+    ghost sum = { under 65535 (turning 65535) ◌+◌ };
+
+    ghost prod = { under 65535 (turning 65535) ◌*◌ };
+
+    fn total(a: u32, b: u32) -> Option<u32> {
+        exact_total::<Turning>(a, b)
+    }
+
+    fn product(a: u32, b: u32) -> Option<u32> {
+        exact_product::<Turning>(a, b)
+    }
+
+    ghost lawful = { Prim.search rules };
 }
 
 /// An exact result, or none above the greatest value.

@@ -2,13 +2,12 @@
 ghost use Rattle.std.specs.Prelude.{◌≡◌, ◌+◌, ◌*◌, ℕ, ◌&&◌, if◌then◌else◌, nat_le, Some, None, Option as Maybe};
 ghost use Rattle.rules.specs.Delivered.{under};
 ghost use Rattle.rules.specs.Law.{Gives};
-ghost use Rattle.std.proofs.Common.{rules};
-
-use crate::rule::NumberRule;
 
 /// A rule that looks at nothing but the exact result, once both operands are at most its greatest value.
+// Each such rule implements `NumberRule` itself. The checker evaluates a constant of a plain `impl` in a pattern, in another constant and in a
+// length, and refuses one of a generic `impl` there.
 pub trait ExactRule {
-    /// The rule's greatest value, from 1 to 2,147,483,647: its `GREATEST`.
+    /// The rule's greatest value, from 1 to 2,147,483,647: its `GREATEST` as a number rule.
     const LIMIT: u32;
 
     ghost LIMIT: { ℕ };
@@ -22,26 +21,20 @@ pub trait ExactRule {
     ghost gives: { Gives LIMIT given };
 }
 
-impl<R: ExactRule> NumberRule for R {
-    const GREATEST: u32 = R::LIMIT;
+/// The total of two numbers under a rule that looks at the exact result alone, if it gives one: the rule's own `total`.
+pub fn exact_total<R: ExactRule>(a: u32, b: u32) -> Option<u32>
+    ensures { result ≡ under R.LIMIT R.given ◌+◌ a b }
+{
+    let (a, b) = operands(a, b, R::LIMIT)?;
+    R::give(a + b)
+}
 
-    ghost GREATEST = { R.LIMIT };
-
-    ghost sum = { under R.LIMIT R.given ◌+◌ };
-
-    ghost prod = { under R.LIMIT R.given ◌*◌ };
-
-    fn total(a: u32, b: u32) -> Option<u32> {
-        let (a, b) = operands(a, b, R::LIMIT)?;
-        R::give(a + b)
-    }
-
-    fn product(a: u32, b: u32) -> Option<u32> {
-        let (a, b) = operands(a, b, R::LIMIT)?;
-        R::give(a * b)
-    }
-
-    ghost lawful = { Prim.search rules };
+/// The product of two numbers under a rule that looks at the exact result alone, if it gives one: the rule's own `product`.
+pub fn exact_product<R: ExactRule>(a: u32, b: u32) -> Option<u32>
+    ensures { result ≡ under R.LIMIT R.given ◌*◌ a b }
+{
+    let (a, b) = operands(a, b, R::LIMIT)?;
+    R::give(a * b)
 }
 
 /// Both operands in 64 bits, so that their total and their product are exact; none if one is above the greatest value.

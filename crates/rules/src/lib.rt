@@ -7,5 +7,5 @@ mod exact;
 mod rule;
 
 pub use delivered::{Capped, NarrowStrict, Turning, WideStrict};
-pub use exact::ExactRule;
+pub use exact::{ExactRule, exact_product, exact_total};
 pub use rule::NumberRule;

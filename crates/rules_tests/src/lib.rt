@@ -9,6 +9,10 @@ mod tests {
     use rules::cause::{Cause, try_product, try_total};
     use rules::{Capped, NarrowStrict, NumberRule, Turning, WideStrict};
 
+    const NARROW: u32 = NarrowStrict::GREATEST;
+
+    const _: () = prove!(WideStrict::GREATEST == 2_147_483_647);
+
     /// What the four rules answer: narrow strict, wide strict, capped and turning.
     type Answers = (Option<u32>, Option<u32>, Option<u32>, Option<u32>);
 
@@ -105,5 +109,12 @@ mod tests {
         assert_eq!(rt; WideStrict::GREATEST, 2_147_483_647);
         assert_eq!(rt; Capped::GREATEST, 65_535);
         assert_eq!(rt; Turning::GREATEST, 65_535);
+    }
+    // A rule's greatest value is a constant in other crates too: for a constant, for a proof at compile time, and in a pattern.
+    #[test]
+    fn greatest_values_are_constants(rt: HostRuntime) {
+        assert_eq!(rt; NARROW, 65_535);
+        assert!(rt; matches!(65_535u32, Capped::GREATEST));
+        assert!(rt; !matches!(65_536u32, Turning::GREATEST));
     }
 }
