@@ -5,4 +5,6 @@ pub mod Lawful
 pub mod Resumed
 pub mod Runs
 pub mod Steps
+pub mod Table
 pub mod Taken
+pub mod Words

@@ -23,40 +23,47 @@ pub(crate) fn run_kind(run: Run, bytes: &[u8]) -> Result<TokenKind<'_>, Fault>
     requires { Forms (run-sort run) bytes.now }
     ensures { kind_meaning result ≡ meaning (piece (run-sort run) bytes.now) }
 {
-    // Letters and digits are text.
-    let text = str::from_utf8(bytes).unwrap();
     match run {
-        Run::Name => name_kind(text),
-        Run::Word => word_kind(text),
-        Run::Number => constant_kind(text),
+        Run::Name => name_kind(bytes),
+        Run::Word => word_kind(bytes),
+        Run::Number => constant_kind(bytes),
     }
 }
 
-fn name_kind(text: &str) -> Result<TokenKind<'_>, Fault>
-    ensures { kind_meaning result ≡ meaning (piece (run-sort Name) text.now) }
+fn name_kind(bytes: &[u8]) -> Result<TokenKind<'_>, Fault>
+    requires { Forms (run-sort Name) bytes.now }
+    ensures { kind_meaning result ≡ meaning (piece (run-sort Name) bytes.now) }
 {
-    if text.len() <= MOST_LETTERS {
-        Ok(TokenKind::Name(text))
-    } else {
-        Err(Fault::NameTooLong)
+    if bytes.len() > MOST_LETTERS {
+        return Err(Fault::NameTooLong);
     }
+    Ok(TokenKind::Name(run_text(Run::Name, bytes)))
 }
 
-fn word_kind(text: &str) -> Result<TokenKind<'_>, Fault>
-    ensures { kind_meaning result ≡ meaning (piece (run-sort AsWord) text.now) }
+fn word_kind(bytes: &[u8]) -> Result<TokenKind<'_>, Fault>
+    ensures { kind_meaning result ≡ meaning (piece (run-sort AsWord) bytes.now) }
 {
-    let word = Word::of_run(text.as_bytes()).ok_or(Fault::UnknownWord)?;
+    let word = Word::of_run(bytes).ok_or(Fault::UnknownWord)?;
     Ok(TokenKind::Word(word))
 }
 
-fn constant_kind(text: &str) -> Result<TokenKind<'_>, Fault>
-    requires { Forms (run-sort Number) text.now }
-    ensures { kind_meaning result ≡ meaning (piece (run-sort Number) text.now) }
+fn constant_kind(bytes: &[u8]) -> Result<TokenKind<'_>, Fault>
+    requires { Forms (run-sort Number) bytes.now }
+    ensures { kind_meaning result ≡ meaning (piece (run-sort Number) bytes.now) }
 {
-    match text.parse() {
-        Ok(value) if value <= GREATEST && text.len() <= MOST_DIGITS => {
-            Ok(TokenKind::Constant(value))
-        }
+    if bytes.len() > MOST_DIGITS {
+        return Err(Fault::ConstantTooLarge);
+    }
+    match run_text(Run::Number, bytes).parse() {
+        Ok(value) if value <= GREATEST => Ok(TokenKind::Constant(value)),
         _ => Err(Fault::ConstantTooLarge),
     }
+}
+
+/// A run as text, which letters and digits are.
+fn run_text(run: Run, bytes: &[u8]) -> &str
+    requires { Forms (run-sort run) bytes.now }
+    ensures { result.now ≡ bytes.now }
+{
+    str::from_utf8(bytes).unwrap()
 }

@@ -24,24 +24,6 @@ pub enum Word {
     False,
 }
 
-static WORDS: [Word; 15] = [
-    Word::Begin,
-    Word::End,
-    Word::Int,
-    Word::Bool,
-    Word::Ref,
-    Word::If,
-    Word::Then,
-    Word::Else,
-    Word::Fi,
-    Word::While,
-    Word::Do,
-    Word::Input,
-    Word::Output,
-    Word::True,
-    Word::False,
-];
-
 impl Word {
     /// The word that a run of small letters forms, if it forms one.
     // A function, and no `TryFrom<&[u8]>`, whose error would say what `None` says.
@@ -56,10 +38,24 @@ impl Word {
     fn first_like(run: &[u8]) -> Option<Word>
         ensures { result ≡ word_of run.now }
     {
-        WORDS
-            .iter()
-            .copied()
-            .find(|word| run == word.text().as_bytes())
+        match run {
+            b"begin" => Some(Word::Begin),
+            b"end" => Some(Word::End),
+            b"int" => Some(Word::Int),
+            b"bool" => Some(Word::Bool),
+            b"ref" => Some(Word::Ref),
+            b"if" => Some(Word::If),
+            b"then" => Some(Word::Then),
+            b"else" => Some(Word::Else),
+            b"fi" => Some(Word::Fi),
+            b"while" => Some(Word::While),
+            b"do" => Some(Word::Do),
+            b"input" => Some(Word::Input),
+            b"output" => Some(Word::Output),
+            b"true" => Some(Word::True),
+            b"false" => Some(Word::False),
+            _ => None,
+        }
     }
 
     /// The letters of a word.

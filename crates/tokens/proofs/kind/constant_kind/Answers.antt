@@ -5,10 +5,10 @@ use Rattle.tokens.proofs.kind.constant_kind.Goals as goal
 
 pub returns-in-Ok : goal.returns-in-Ok
 returns-in-Ok c =
-    let p = rw c.in-Ok.is at (parsed c.args.text.now c.parse.result c.requires c.parse.ensures.value.0) in
+    let p = rw c.in-Ok.is at (parsed c.args.bytes.now c.parse.result c.requires (rw c.run_text.ensures at c.parse.ensures.value.0)) in
     grind (arith, nat_tests)
 
 pub returns-in_default : goal.returns-in_default
 returns-in_default c =
-    let p = parsed c.args.text.now c.parse.result c.requires c.parse.ensures.value.0 in
+    let p = parsed c.args.bytes.now c.parse.result c.requires (rw c.run_text.ensures at c.parse.ensures.value.0) in
     grind (arith, nat_tests)

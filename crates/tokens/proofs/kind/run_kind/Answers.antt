@@ -1,6 +1,0 @@
-use Rattle.std.proofs.Common.{IsUtf8, arith}
-use Rattle.tokens.proofs.Runs.{utf8_run}
-use Rattle.tokens.proofs.kind.run_kind.Goals as goal
-
-pub unwrap-text-requires : goal.unwrap-text-requires
-unwrap-text-requires c = let text : IsUtf8 c.args.bytes.now = utf8_run c.args.run c.args.bytes.now c.requires.1 in grind arith
