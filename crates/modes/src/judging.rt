@@ -2,7 +2,7 @@
 ghost use Rattle.std.specs.Prelude.{◌≡◌, [], ◌∷◌, map};
 ghost use Rattle.modes.specs.Answer.{Answers};
 ghost use Rattle.modes.specs.Declaring.{lookup};
-ghost use Rattle.modes.specs.Flatly.{applying, flatly, gone, step, storing, testing};
+ghost use Rattle.modes.specs.Flatly.{applying, flatly, gone, known, onto, step, storing, testing, worked_out};
 ghost use Rattle.modes.specs.Judging.{named, result_of};
 ghost use Rattle.modes.specs.Progress.{Finds, Steps, Takes, TakesTwo, entries, entry_of, primitive_in};
 ghost use Rattle.outline.specs.Code.{op_of, operator_of};
@@ -70,21 +70,16 @@ impl Stack {
         ensures { Steps (step (map declared_of declared.now) (entries self.old) (op_of instruction.entry)) result (entries self.new) }
     {
         match instruction {
-            Instruction::Load(place, name) => {
-                self.push(Value::plain(place, find(declared, place, name)?.primitive))
-            }
+            Instruction::Load(place, name) => self.load(declared, place, name),
             Instruction::Number(place, _) => self.push(Value::plain(place, Primitive::Int)),
             Instruction::Truth(place, _) => self.push(Value::plain(place, Primitive::Bool)),
             Instruction::Apply(place, operator) => self.apply(place, operator),
             Instruction::Target(place, name) | Instruction::Refer(place, name) => {
-                self.push(find(declared, place, name)?)
+                self.refer(declared, place, name)
             }
             Instruction::Store => self.store(),
             Instruction::Test(place) | Instruction::Enter(place) => self.test(place),
-            Instruction::Read(_, place, name) => {
-                find(declared, place, name)?;
-                Ok(())
-            }
+            Instruction::Read(_, place, name) => self.read(declared, place, name),
             Instruction::Write(_) => {
                 self.pop();
                 Ok(())
@@ -94,6 +89,45 @@ impl Stack {
             | Instruction::Head(_)
             | Instruction::Repeat => Ok(()),
         }
+    }
+
+    /// The value of a name.
+    // `load`, `refer` and `read` are functions of their own: the memory for what `find` answers is cleared where a function
+    // begins, so only a step that looks up a name pays for it.
+    fn load(
+        &mut self,
+        declared: &[Declared<'_>],
+        place: usize,
+        name: &str,
+    ) -> Result<(), Failure<Fault>>
+        ensures { Steps (worked_out (entries self.old) place (named place (lookup (map declared_of declared.now) name.now))) result (entries self.new) }
+    {
+        self.push(Value::plain(place, find(declared, place, name)?.primitive))
+    }
+
+    /// A name as it stands, with its references.
+    fn refer(
+        &mut self,
+        declared: &[Declared<'_>],
+        place: usize,
+        name: &str,
+    ) -> Result<(), Failure<Fault>>
+        ensures { Steps (onto (entries self.old) place (named place (lookup (map declared_of declared.now) name.now))) result (entries self.new) }
+    {
+        self.push(find(declared, place, name)?)
+    }
+
+    /// The name of an input, which leaves the stack as it is.
+    fn read(
+        &mut self,
+        declared: &[Declared<'_>],
+        place: usize,
+        name: &str,
+    ) -> Result<(), Failure<Fault>>
+        ensures { Steps (known (entries self.old) (named place (lookup (map declared_of declared.now) name.now))) result (entries self.new) }
+    {
+        find(declared, place, name)?;
+        Ok(())
     }
 
     /// One value more on the stack.

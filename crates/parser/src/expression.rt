@@ -99,7 +99,7 @@ impl<'t, 'a> Parser<'t, 'a, Instruction<'a>> {
             self.out.push(instruction)?;
             return Ok(());
         }
-        if token.kind != TokenKind::Sign(Sign::Open) {
+        if !matches!(token.kind, TokenKind::Sign(Sign::Open)) {
             return Err(Failure::refused(Fault::NotAllowed, token.place));
         }
         if spare == 0 {

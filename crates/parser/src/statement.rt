@@ -43,9 +43,10 @@ fn opens<'a>(kind: TokenKind<'a>) -> Option<Opener<'a>>
 fn operator_first(tokens: &[Token<'_>]) -> bool
     ensures { NoOperator tokens.now result }
 {
-    tokens.first().is_some_and(|token| {
-        token.kind == TokenKind::Sign(Sign::Star) || token.kind == TokenKind::Sign(Sign::Plus)
-    })
+    tokens.first().is_some_and(|token| matches!(
+        token.kind,
+        TokenKind::Sign(Sign::Star | Sign::Plus)
+    ))
 }
 
 impl<'t, 'a> Parser<'t, 'a, Instruction<'a>> {
