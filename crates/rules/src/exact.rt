@@ -4,10 +4,10 @@ ghost use Rattle.rules.specs.Delivered.{under};
 ghost use Rattle.rules.specs.Law.{Gives};
 
 /// A rule that looks at nothing but the exact result, once both operands are at most its greatest value.
-// Each such rule implements `NumberRule` itself. The checker evaluates a constant of a plain `impl` in a pattern, in another constant and in a
-// length, and refuses one of a generic `impl` there.
+// Each delivered rule implements `NumberRule` itself. The checker evaluates a constant of a plain `impl` in a pattern, in another
+// constant and in a length, and refuses one of a generic `impl` there.
 pub trait ExactRule {
-    /// The rule's greatest value, from 1 to 2,147,483,647: its `GREATEST` as a number rule.
+    /// The rule's greatest value, from 1 to 2,147,483,647: what a delivered rule has as its `GREATEST`.
     const LIMIT: u32;
 
     ghost LIMIT: { ℕ };
@@ -21,7 +21,8 @@ pub trait ExactRule {
     ghost gives: { Gives LIMIT given };
 }
 
-/// The total of two numbers under a rule that looks at the exact result alone, if it gives one: the rule's own `total`.
+/// The total of two numbers under a rule that looks at the exact result alone, if it gives one: a delivered rule's own
+/// `total`.
 pub fn exact_total<R: ExactRule>(a: u32, b: u32) -> Option<u32>
     ensures { result ≡ under R.LIMIT R.given ◌+◌ a b }
 {
@@ -29,7 +30,8 @@ pub fn exact_total<R: ExactRule>(a: u32, b: u32) -> Option<u32>
     R::give(a + b)
 }
 
-/// The product of two numbers under a rule that looks at the exact result alone, if it gives one: the rule's own `product`.
+/// The product of two numbers under a rule that looks at the exact result alone, if it gives one: a delivered rule's own
+/// `product`.
 pub fn exact_product<R: ExactRule>(a: u32, b: u32) -> Option<u32>
     ensures { result ≡ under R.LIMIT R.given ◌*◌ a b }
 {
